@@ -1,0 +1,79 @@
+-- Sheets, cells and areas. Sixteen sheets with the numbers 0 to 15, each of 1,024 columns and
+-- 1,048,576 rows, which are counted from 1.
+use Rattle.std.specs.Prelude.{ℕ, Bool, ◌+◌, ◌-◌, ◌≤◌, ◌&&◌, ◌==◌, nat_le, List, map}
+use Rattle.std.specs.List.{flat_map, range_with_len}
+use Rattle.std.specs.Ordering.{nat_cmp, ordering_then}
+use Rattle.std.specs.declared.cmp.Ordering.{Ordering}
+
+-- where a cell lies
+pub record Place : Type 0 where
+  pub sheet : ℕ
+  pub col : ℕ
+  pub row : ℕ
+
+-- the place is one of a sheet
+pub record IsPlace (p : Place) : Type 0 where
+  pub sheet_in : p.sheet ≤ 15
+  pub col_from : 1 ≤ p.col
+  pub col_to : p.col ≤ 1024
+  pub row_from : 1 ≤ p.row
+  pub row_to : p.row ≤ 1048576
+
+-- the order of cells: by sheet, then column, then row
+abbrev pub place_cmp : Place → Place → Ordering
+place_cmp a b = ordering_then (nat_cmp a.sheet b.sheet) (ordering_then (nat_cmp a.col b.col) (nat_cmp a.row b.row))
+
+-- a rectangle of one sheet, with both ends in it
+pub record Rectangle : Type 0 where
+  pub sheet : ℕ
+  pub first_col : ℕ
+  pub last_col : ℕ
+  pub first_row : ℕ
+  pub last_row : ℕ
+
+-- the ends are in order, and lie in the sheet
+pub record IsRectangle (a : Rectangle) : Type 0 where
+  pub sheet_in : a.sheet ≤ 15
+  pub cols_from : 1 ≤ a.first_col
+  pub cols_in_order : a.first_col ≤ a.last_col
+  pub cols_to : a.last_col ≤ 1024
+  pub rows_from : 1 ≤ a.first_row
+  pub rows_in_order : a.first_row ≤ a.last_row
+  pub rows_to : a.last_row ≤ 1048576
+
+-- whether the rectangle has the cell
+abbrev pub covers : Rectangle → Place → Bool
+covers a p =
+    (p.sheet == a.sheet)
+    && nat_le a.first_col p.col && nat_le p.col a.last_col
+    && nat_le a.first_row p.row && nat_le p.row a.last_row
+
+-- the numbers from first to last
+abbrev pub from_to : ℕ → ℕ → List ℕ
+from_to first last = range_with_len first (last + 1 - first)
+
+-- the cells of a rectangle in area order: column by column, downwards
+abbrev pub places : Rectangle → List Place
+places a =
+    flat_map (λ col. map (λ row. record { sheet = a.sheet; col = col; row = row }) (from_to a.first_row a.last_row))
+    (from_to a.first_col a.last_col)
+
+-- the rectangle of one cell
+abbrev pub single : Place → Rectangle
+single p = record { sheet = p.sheet; first_col = p.col; last_col = p.col; first_row = p.row; last_row = p.row }
+
+-- neighbouring rows of one column
+pub record Rows : Type 0 where
+  pub sheet : ℕ
+  pub col : ℕ
+  pub first : ℕ
+  pub last : ℕ
+
+-- the rows are in order, and lie in the sheet
+pub record IsRows (r : Rows) : Type 0 where
+  pub sheet_in : r.sheet ≤ 15
+  pub col_from : 1 ≤ r.col
+  pub col_to : r.col ≤ 1024
+  pub from : 1 ≤ r.first
+  pub in_order : r.first ≤ r.last
+  pub to : r.last ≤ 1048576

@@ -1,0 +1,15 @@
+//! Cells, areas and references on sixteen sheets, and the words that spell them.
+//!
+//! A sheet has the columns 1 to 1,024 (`A` to `AMJ`) and the rows 1 to 1,048,576. The order of cells
+//! is by sheet, then column, then row; within an area this is area order.
+#![tactic(auto)]
+
+mod cell;
+mod reference;
+
+pub use cell::{Area, Cell, LAST_COL, LAST_ROW, LAST_SHEET, Run};
+pub use reference::{Marks, Ref, Span};
+use std::alloc::AllocError;
+
+/// Want of memory.
+pub type NoMemory = AllocError;

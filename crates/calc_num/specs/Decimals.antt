@@ -1,0 +1,16 @@
+-- Decimals of nine places as whole numbers without bound: a raw number n stands for n / 10^9.
+use Rattle.std.specs.Prelude.{◌≡◌, ℤ, ◌^◌, Bool, true, Result, Ok, Err, nat_lt, if◌then◌else◌}
+use Rattle.std.specs.Int.RustNames.{unsigned_abs}
+use Rattle.calc_num.specs.declared.num.NumFault.{NumFault}
+use Rattle.calc_num.specs.declared.num.NumFault.TheVariants.{Over}
+
+-- a raw number in range has a size below 10^27
+abbrev pub is_raw : ℤ → Bool
+is_raw n = nat_lt (unsigned_abs n) (10 ^ 27)
+
+abbrev pub IsRaw : ℤ → Type 0
+IsRaw n = is_raw n ≡ true
+
+-- an exact result, or the fault where it is out of range
+abbrev pub checked : ℤ → Result ℤ NumFault
+checked n = if is_raw n then Ok n else Err Over

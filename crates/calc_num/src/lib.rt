@@ -1,0 +1,9 @@
+//! Decimal numbers of nine places, held as whole numbers of 128 bits.
+//!
+//! A number is kept as its raw number n, which stands for n / 10^9. The size of n is below 10^27, so
+//! a number has up to 18 digits before the point and nine behind it. Nothing is floating point.
+#![tactic(auto)]
+
+mod num;
+
+pub use num::{Num, NumFault};

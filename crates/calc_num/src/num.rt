@@ -1,0 +1,66 @@
+ghost use Rattle.std.specs.Prelude.{◌≡◌, ◌+ℤ◌, ◌↔◌, IsSome, IfSome};
+ghost use Rattle.calc_num.specs.Decimals.{IsRaw, checked};
+
+use std::marker::Model;
+
+/// The first size that is out of range.
+const LIMIT: i128 = 1_000_000_000_000_000_000_000_000_000;
+
+/// A decimal number. Contracts see its raw number n, which stands for n / 10^9.
+#[derive(Clone, Copy, Debug, PartialEq, Eq)]
+pub struct Num {
+    raw: i128,
+}
+
+impl Model for Num {
+    ghost use Rattle.std.specs.Prelude.{ℤ};
+    ghost use Rattle.calc_num.specs.Decimals.{IsRaw};
+
+    ghost Value = { ℤ };
+
+    ghost view = { λ n. n.raw };
+
+    ghost invariant = { λ n. IsRaw n.raw };
+
+    ghost inverse = { λ z. record { raw = z } };
+}
+
+/// Why an operation has no number as its result.
+#[derive(Clone, Copy, Debug, PartialEq, Eq)]
+pub enum NumFault {
+    /// The result is out of range.
+    Over,
+    /// The divisor is zero.
+    DivZero,
+    /// The operation has no result at this operand.
+    NotNum,
+}
+
+impl Num {
+    /// The number with the raw number n, if that is in range.
+    pub fn from_raw(n: i128) -> Option<Num>
+        ensures in_range { IsSome result ↔ IsRaw n }
+        ensures value { IfSome result (λ num. num ≡ n) }
+    {
+        if -LIMIT < n && n < LIMIT {
+            Some(Num { raw: n })
+        } else {
+            None
+        }
+    }
+
+    /// The raw number.
+    pub fn raw(self) -> i128
+        ensures value { result ≡ self }
+        ensures in_range { IsRaw result }
+    {
+        self.raw
+    }
+
+    /// The sum, which is exact.
+    pub fn add(self, other: Num) -> Result<Num, NumFault>
+        ensures { result ≡ checked (self +ℤ other) }
+    {
+        Num::from_raw(self.raw + other.raw).ok_or(NumFault::Over)
+    }
+}
