@@ -2,6 +2,18 @@
 //! say what a book means.
 #![tactic(auto)]
 
+mod content;
+mod edit;
+mod fault;
+mod list;
 mod text;
+mod tree;
+mod value;
 
+pub use content::{Constant, Content, Formula};
+pub use edit::Edit;
+pub use fault::Fault;
+pub use list::List;
 pub use text::Text;
+pub use tree::{Op, Tree};
+pub use value::{Seen, Value};

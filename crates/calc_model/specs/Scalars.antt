@@ -1,0 +1,1 @@
+-- Coercions of values.

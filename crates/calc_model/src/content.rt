@@ -1,0 +1,117 @@
+ghost use Rattle.std.specs.Prelude.{◌≡◌, IfOk};
+ghost use Rattle.calc_model.specs.Contents.{IsConstant};
+
+use crate::text::Text;
+use crate::tree::Tree;
+use crate::value::Value;
+use calc_addr::NoMemory;
+use std::alloc::Global;
+use std::marker::Model;
+
+/// What a cell holds.
+#[derive(Drop)]
+pub enum Content {
+    Empty,
+    Constant(Constant),
+    Formula(Formula),
+    /// The text of a field that begins as a formula and isn't one of the grammar.
+    Raw(Text),
+}
+
+/// A value that a field can hold: a number, a text, or one of the eight error constants. Contracts see
+/// it as that value.
+#[derive(Drop)]
+pub struct Constant {
+    value: Value,
+}
+
+impl Model for Constant {
+    ghost use Rattle.calc_model.specs.declared.value.Value.{Value as CellValue};
+
+    ghost Value = { CellValue };
+
+    ghost use Rattle.calc_model.specs.Contents.{IsConstant};
+
+    ghost view = { λ c. c.value };
+
+    ghost invariant = { λ c. IsConstant c.value };
+}
+
+/// A formula that a field can hold. Contracts see it as its tree.
+#[derive(Drop)]
+pub struct Formula {
+    tree: Tree,
+}
+
+impl Model for Formula {
+    ghost use Rattle.calc_model.specs.declared.tree.Tree.{Tree};
+    ghost use Rattle.calc_model.specs.contracts.tree.Tree as coded_tree;
+
+    ghost Value = { Tree };
+
+    ghost coded = { coded_tree.the_row.coded };
+
+    ghost view = { λ f. f.tree };
+}
+
+impl Constant {
+    pub fn of(value: Value) -> Constant
+        requires { IsConstant value }
+        ensures { result ≡ value }
+    {
+        Constant { value }
+    }
+
+    pub fn value(&self) -> &Value
+        ensures value { result.now ≡ self.now }
+        ensures kind { IsConstant result.now }
+    {
+        &self.value
+    }
+
+    /// An equal constant.
+    pub fn copy(&self, alloc: Global) -> Result<Constant, NoMemory>
+        ensures { IfOk result (λ c. c ≡ self.now) }
+    {
+        Ok(Constant {
+            value: self.value.copy(alloc)?,
+        })
+    }
+}
+
+impl Formula {
+    pub fn of(tree: Tree) -> Formula
+        ensures { result ≡ tree }
+    {
+        Formula { tree }
+    }
+
+    pub fn tree(&self) -> &Tree
+        ensures { result.now ≡ self.now }
+    {
+        &self.tree
+    }
+
+    /// An equal formula.
+    pub fn copy(&self, alloc: Global) -> Result<Formula, NoMemory>
+        ensures { IfOk result (λ f. f ≡ self.now) }
+    {
+        Ok(Formula {
+            tree: self.tree.copy(alloc)?,
+        })
+    }
+}
+
+impl Content {
+    /// An equal content.
+    pub fn copy(&self, alloc: Global) -> Result<Content, NoMemory>
+        ensures { IfOk result (λ c. c ≡ self.now) }
+    {
+        match self {
+            Content::Empty => Ok(Content::Empty),
+            Content::Constant(constant) => Ok(Content::Constant(constant.copy(alloc)?)),
+            Content::Formula(formula) => Ok(Content::Formula(formula.copy(alloc)?)),
+            Content::Raw(text) => Ok(Content::Raw(text.copy(alloc)?)),
+        }
+    }
+}
