@@ -1,3 +1,10 @@
 pub mod Values
-pub mod Scalars
 pub mod Contents
+pub mod Books
+pub mod Reads
+pub mod Grounded
+pub mod Scalars
+pub mod Eval
+pub mod Val
+pub mod FixedPoint
+pub mod Results

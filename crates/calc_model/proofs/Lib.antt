@@ -1,0 +1,9 @@
+pub mod TreeFolds
+pub mod TreeInduction
+pub mod Areas
+pub mod EvalSame
+pub mod Rounds
+pub mod Shown
+pub mod Knowing
+pub mod Places
+pub mod Counting
