@@ -1,15 +1,13 @@
 -- What the printed text of a number is made of: digits, a minus and a point alone, and at least one of them.
 -- So it has no comma, quote, carriage return, line feed or blank.
-use Rattle.std.proofs.Common.{◌≡◌, ℕ, zero, suc, ◌+◌, ◌/◌, ◌%◌, ◌^◌, ◌<◌, ◌==◌, ◌||◌, Bool, true, List, [], ◌∷◌, ◌++◌, length, take, ℤ, pos, negsuc, refl, ◌∙◌, arith, length-append}
+use Rattle.std.proofs.Common.{◌≡◌, ℕ, zero, suc, ◌+◌, ◌/◌, ◌%◌, ◌^◌, ◌<◌, ◌≤◌, ◌==◌, ◌||◌, Bool, true, false, List, [], ◌∷◌, ◌++◌, length, take, ℤ, pos, negsuc, refl, ◌∙◌, arith, length-append}
 use Rattle.std.specs.Char.{is_ascii_digit}
 use Rattle.std.specs.List.{list_all}
-use Rattle.std.specs.Fmt.{decimal}
-use Rattle.std.proofs.lemmas.Bool.{and_from, le-leb, or_left, ltb-true, cond_both}
-use Rattle.std.proofs.lemmas.Fmt.{decimal_by_steps_wide}
+use Rattle.std.specs.Fmt.{decimal, digits, digits_onto, digit_glyph}
+use Rattle.std.proofs.lemmas.Bool.{and_from, le-leb, or_left, lt-ltb, cond_both}
 use Rattle.std.proofs.lemmas.List.Folds.{list_all-append}
 use Rattle.std.proofs.lemmas.List.Sums.{AllPass-from_list_all, list_all-from_AllPass}
 use Rattle.std.proofs.lemmas.List.Elements.{All-take}
-use Rattle.calc_num.specs.Decimals.{IsRaw}
 use Rattle.calc_num.specs.Numbers.{last_digits, without_end_zeros, printed_fraction, printed_size, printed}
 
 -- a digit, a minus or a point
@@ -34,27 +32,44 @@ in_front : (count : ℕ) (xs : List ℕ) → list_all is_number_byte xs ≡ true
 in_front count xs all =
     list_all-from_AllPass is_number_byte (take count xs) (All-take (λ x. is_number_byte x ≡ true) count xs (AllPass-from_list_all is_number_byte xs all))
 
-in_decimal : (n : ℕ) → n < 10 ^ 64 → list_all is_number_byte (decimal n) ≡ true
-in_decimal = decimal_by_steps_wide (λ n text. list_all is_number_byte text ≡ true) (λ n small. one_more [] n small refl) (λ n text _ front. one_more text (n % 10) (omega arith) front)
+one_glyph : (n : ℕ) → n < 10 → is_number_byte (digit_glyph false n) ≡ true
+one_glyph n small = rw (lt-ltb n 10 small) (glyph n small)
+
+in_digits : (count n : ℕ) (xs : List ℕ) → list_all is_number_byte xs ≡ true → list_all is_number_byte (digits_onto count 10 false n xs) ≡ true
+in_digits zero n xs all = all
+in_digits (suc count) n xs all =
+    let more = and_from _ _ (one_glyph (n % 10) (omega arith)) all in
+    cond_both (n / 10 == 0) (digit_glyph false (n % 10) ∷ xs) (digits_onto count 10 false (n / 10) (digit_glyph false (n % 10) ∷ xs)) (λ text. list_all is_number_byte text ≡ true) (λ _. more) (λ _. in_digits count (n / 10) (digit_glyph false (n % 10) ∷ xs) more)
+
+in_decimal : (n : ℕ) → list_all is_number_byte (decimal n) ≡ true
+unfolding digits
+in_decimal n = in_digits 64 n [] refl
 
 in_fraction : (n : ℕ) → list_all is_number_byte (printed_fraction n) ≡ true
 in_fraction n =
     cond_both (n == 0) [] (46 ∷ without_end_zeros (last_digits 9 n)) (λ text. list_all is_number_byte text ≡ true) (λ _. refl) (λ _. in_front _ (last_digits 9 n) (in_last_digits 9 n))
 
-in_size : (n : ℕ) → n < 10 ^ 27 → list_all is_number_byte (printed_size n) ≡ true
-in_size n small = joined (decimal (n / 10 ^ 9)) _ (in_decimal (n / 10 ^ 9) (omega arith)) (in_fraction (n % 10 ^ 9))
+in_size : (n : ℕ) → list_all is_number_byte (printed_size n) ≡ true
+in_size n = joined (decimal (n / 10 ^ 9)) _ (in_decimal (n / 10 ^ 9)) (in_fraction (n % 10 ^ 9))
 
-pub printed-bytes : (z : ℤ) → IsRaw z → list_all is_number_byte (printed z) ≡ true
-printed-bytes (pos n) raw = in_size n (ltb-true n (10 ^ 27) raw)
-printed-bytes (negsuc n) raw = in_size (suc n) (ltb-true (suc n) (10 ^ 27) raw)
+pub printed-bytes : (z : ℤ) → list_all is_number_byte (printed z) ≡ true
+printed-bytes (pos n) = in_size n
+printed-bytes (negsuc n) = in_size (suc n)
 
-some_decimal : (n : ℕ) → n < 10 ^ 64 → 0 < length (decimal n)
-some_decimal = decimal_by_steps_wide (λ n text. 0 < length text) (λ n small. omega arith) (λ n text _ front. omega (arith, length-append text ((48 + n % 10) ∷ [])))
+no_shorter : (count n : ℕ) (xs : List ℕ) → length xs ≤ length (digits_onto count 10 false n xs)
+no_shorter zero n xs = omega arith
+no_shorter (suc count) n xs =
+    cond_both (n / 10 == 0) (digit_glyph false (n % 10) ∷ xs) (digits_onto count 10 false (n / 10) (digit_glyph false (n % 10) ∷ xs)) (λ text. length xs ≤ length text) (λ _. omega arith) (λ _. omega (arith, no_shorter count (n / 10) (digit_glyph false (n % 10) ∷ xs)))
 
-some_size : (n : ℕ) → n < 10 ^ 27 → 0 < length (printed_size n)
-some_size n small =
-    omega (arith, some_decimal (n / 10 ^ 9) (omega arith), length-append (decimal (n / 10 ^ 9)) (printed_fraction (n % 10 ^ 9)))
+some_decimal : (n : ℕ) → 0 < length (decimal n)
+unfolding digits
+some_decimal n =
+    cond_both (n / 10 == 0) (digit_glyph false (n % 10) ∷ []) (digits_onto 63 10 false (n / 10) (digit_glyph false (n % 10) ∷ [])) (λ text. 0 < length text) (λ _. omega arith) (λ _. omega (arith, no_shorter 63 (n / 10) (digit_glyph false (n % 10) ∷ [])))
 
-pub printed-some : (z : ℤ) → IsRaw z → 0 < length (printed z)
-printed-some (pos n) raw = some_size n (ltb-true n (10 ^ 27) raw)
-printed-some (negsuc n) raw = omega arith
+some_size : (n : ℕ) → 0 < length (printed_size n)
+some_size n =
+    omega (arith, some_decimal (n / 10 ^ 9), length-append (decimal (n / 10 ^ 9)) (printed_fraction (n % 10 ^ 9)))
+
+pub printed-some : (z : ℤ) → 0 < length (printed z)
+printed-some (pos n) = some_size n
+printed-some (negsuc n) = omega arith
