@@ -5,5 +5,7 @@
 #![tactic(auto)]
 
 mod num;
+mod print;
 
 pub use num::{Num, NumFault};
+pub use print::NumText;

@@ -3,6 +3,8 @@ ghost use Rattle.calc_num.specs.Decimals.{IsRaw, checked};
 
 use std::marker::Model;
 
+/// The raw number of 1.
+pub(crate) const ONE: u128 = 1_000_000_000;
 /// The first size that is out of range.
 const LIMIT: i128 = 1_000_000_000_000_000_000_000_000_000;
 
