@@ -1,2 +1,5 @@
+pub mod Addresses
 pub mod Cells
+pub mod Letters
 pub mod References
+pub mod Spelling

@@ -5,11 +5,15 @@
 #![tactic(auto)]
 
 mod cell;
+mod read;
 mod reference;
+mod write;
 
 pub use cell::{Area, Cell, LAST_COL, LAST_ROW, LAST_SHEET, Run};
+pub use read::{Spelled, read_area, read_cell};
 pub use reference::{Marks, Ref, Span};
 use std::alloc::AllocError;
+pub use write::{AddrText, write_cell};
 
 /// Want of memory.
 pub type NoMemory = AllocError;

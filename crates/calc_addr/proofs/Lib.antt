@@ -1,0 +1,5 @@
+pub mod Columns
+pub mod Cuts
+pub mod Digits
+pub mod Parts
+mod Examples

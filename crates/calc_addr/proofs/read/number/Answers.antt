@@ -1,0 +1,13 @@
+use Rattle.std.proofs.Common.{get_or, arith}
+use Rattle.std.proofs.lemmas.Grind.{common_steps}
+use Rattle.std.proofs.lemmas.Int.Digits.{digits_value_more}
+use Rattle.calc_addr.proofs.Digits.{digit_value_is}
+use Rattle.calc_addr.proofs.read.number.Goals as goal
+
+pub loop-digit-preserved : goal.loop-digit-preserved
+loop-digit-preserved c =
+    let i = c.loop-digit.digit-index in
+    record {
+      all = grind (arith, common_steps);
+      value = omega (arith, digits_value_more 10 c.args.text.now i (omega arith), digit_value_is (get_or c.args.text.now i 0) c.if-not-is_ascii_digit.ensures.cases);
+    }
