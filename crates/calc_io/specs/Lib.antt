@@ -1,0 +1,4 @@
+pub mod Faults
+pub mod Desk
+pub mod Sink
+pub mod Shelf

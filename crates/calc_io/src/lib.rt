@@ -1,0 +1,17 @@
+//! The outside of calc: where a book and a script come from, and where the output goes.
+//!
+//! A `Desk` lends books by their names and one script, and a `Sink` takes what is written. Both count
+//! their faults, so that whoever is answered `Failed` knows whose failure it was.
+#![tactic(auto)]
+
+mod desk;
+mod faults;
+mod page;
+mod shelf;
+mod sink;
+mod steady;
+
+pub use desk::Desk;
+pub use faults::Failed;
+pub use sink::Sink;
+pub use steady::{SteadyDesk, SteadySink};

@@ -1,0 +1,109 @@
+ghost use Rattle.std.specs.Prelude.{◌≡◌, ◌↔◌, ◌+◌, ◌-◌, ◌<◌, ◌≤◌, ◌^◌, if◌then◌else◌, [], min, drop, Some, position, IsSome, IsOk, OnOk, OnErr, is_ok};
+ghost use Rattle.calc_io.specs.Desk.{book_of, kept_books};
+ghost use Rattle.calc_io.specs.Shelf.{is_named, open_bytes, shelf_books, book_rest, script_rest, Gives};
+
+use crate::faults::{Failed, count_fault};
+use calc_model::Text;
+
+/// Books and a script in memory, how far they are read, and how many calls have failed.
+#[derive(Drop)]
+pub(crate) struct Shelf {
+    books: Vec<(Text, Vec<u8>)>,
+    /// The place of the open book.
+    opened: Option<usize>,
+    book_read: usize,
+    script: Vec<u8>,
+    script_read: usize,
+    faults: u64,
+}
+
+impl Shelf {
+    pub(crate) fn new(books: Vec<(Text, Vec<u8>)>, script: Vec<u8>) -> Shelf
+        ensures books { shelf_books result ≡ kept_books books.items }
+        ensures unopened { book_rest result ≡ [] }
+        ensures script { script_rest result ≡ script.items }
+        ensures faults { result.faults ≡ 0 }
+    {
+        Shelf {
+            books,
+            opened: None,
+            book_read: 0,
+            script,
+            script_read: 0,
+            faults: 0,
+        }
+    }
+
+    /// Opens the first book of that name. Where there is none, it counts a fault.
+    pub(crate) fn open(&mut self, name: &Text) -> Result<(), Failed>
+        ensures found { IsOk result ↔ IsSome (book_of (shelf_books self.old) name.now) }
+        ensures opened { OnOk result (book_of (shelf_books self.old) name.now ≡ Some (book_rest self.new)) }
+        ensures unknown { OnErr result (book_rest self.new ≡ book_rest self.old) }
+        ensures later { self.old.faults ≤ self.new.faults }
+        ensures counted { self.new.faults ≡ (if is_ok result then self.old.faults else min (self.old.faults + 1) (2 ^ 64 - 1)) }
+        ensures same_books { shelf_books self.new ≡ shelf_books self.old }
+        ensures same_script { script_rest self.new ≡ script_rest self.old }
+    {
+        let Some(place) = find_book(&self.books, name) else {
+            return Err(count_fault(&mut self.faults));
+        };
+        self.opened = Some(place);
+        self.book_read = 0;
+        Ok(())
+    }
+
+    /// Moves bytes of the open book to the front of `buf`, at most so many.
+    pub(crate) fn read_book(&mut self, buf: &mut [u8], most: usize) -> usize
+        requires { 0 < most }
+        ensures gives { Gives (book_rest self.old) (book_rest self.new) result buf.old buf.new most }
+        ensures same_books { shelf_books self.new ≡ shelf_books self.old }
+        ensures same_script { script_rest self.new ≡ script_rest self.old }
+        ensures same_faults { self.new.faults ≡ self.old.faults }
+    {
+        let book = opened_book(&self.books, self.opened);
+        give(book, &mut self.book_read, buf, most)
+    }
+
+    /// Moves bytes of the script to the front of `buf`, at most so many.
+    pub(crate) fn read_script(&mut self, buf: &mut [u8], most: usize) -> usize
+        requires { 0 < most }
+        ensures gives { Gives (script_rest self.old) (script_rest self.new) result buf.old buf.new most }
+        ensures same_books { shelf_books self.new ≡ shelf_books self.old }
+        ensures same_book { book_rest self.new ≡ book_rest self.old }
+        ensures same_faults { self.new.faults ≡ self.old.faults }
+    {
+        give(&self.script, &mut self.script_read, buf, most)
+    }
+}
+
+// The place of the first book of that name.
+fn find_book(books: &[(Text, Vec<u8>)], name: &Text) -> Option<usize>
+    ensures { result ≡ position (is_named name.now) books.now }
+{
+    books
+        .iter()
+        .position(|book| book.0.as_str() == name.as_str())
+}
+
+// The bytes of the open book.
+fn opened_book(books: &[(Text, Vec<u8>)], opened: Option<usize>) -> &[u8]
+    ensures { result.now ≡ open_bytes (kept_books books.now) opened }
+{
+    let Some(place) = opened else { return &[] };
+    let Some((_, bytes)) = books.get(place) else {
+        return &[]
+    };
+    bytes
+}
+
+// Moves bytes to the front of `buf`, at most so many, from the place up to which they are read.
+fn give(bytes: &[u8], read: &mut usize, buf: &mut [u8], most: usize) -> usize
+    requires { 0 < most }
+    ensures { Gives (drop read.old bytes.now) (drop read.new bytes.now) result buf.old buf.new most }
+{
+    let left = bytes.get(*read..).unwrap_or_default();
+    let count = left.len().min(buf.len()).min(most);
+    buf[..count].copy_from_slice(&left[..count]);
+    *read += count;
+    count
+}
