@@ -1,5 +1,5 @@
 -- Tests of all cells of an area, and the cells that it covers.
-use Rattle.std.proofs.Common.{◌≡◌, ℕ, zero, suc, ◌+◌, ◌-◌, ◌<◌, ◌≤◌, Bool, true, false, ◌==◌, ◌&&◌, nat_le, List, [], ◌∷◌, map, refl, sym, ap, subst, ◌∙◌, arith}
+use Rattle.std.proofs.Common.{◌≡◌, ℕ, zero, suc, ◌+◌, ◌-◌, ◌<◌, ◌≤◌, Bool, true, false, ◌&&◌, List, [], ◌∷◌, map, refl, sym, ap, subst, ◌∙◌, arith}
 use Rattle.std.proofs.lemmas.Bool.Decides.{nat_tests}
 use Rattle.std.proofs.lemmas.List.Folds.{list_all-map, list_all-append}
 use Rattle.std.specs.List.{list_all, flat_map, range_with_len}
@@ -58,15 +58,15 @@ places_all p a h q c =
     let i : Inside a q = inside a q c in
     let cols = by_columns p a in
     let at_col : list_all (λ row. p (record { sheet = a.sheet; col = q.col; row = row })) (from_to a.first_row a.last_row) ≡ true =
-        range_all (λ col. list_all (λ row. p (record { sheet = a.sheet; col = col; row = row })) (from_to a.first_row a.last_row)) a.first_col (a.last_col + 1 - a.first_col) q.col (sym cols ∙ h) i.col_from (omega arith) in
+    range_all (λ col. list_all (λ row. p (record { sheet = a.sheet; col = col; row = row })) (from_to a.first_row a.last_row)) a.first_col (a.last_col + 1 - a.first_col) q.col (sym cols ∙ h) i.col_from (omega arith) in
     let at_row : p (record { sheet = a.sheet; col = q.col; row = q.row }) ≡ true =
-        range_all (λ row. p (record { sheet = a.sheet; col = q.col; row = row })) a.first_row (a.last_row + 1 - a.first_row) q.row at_col i.row_from (omega arith) in
+    range_all (λ row. p (record { sheet = a.sheet; col = q.col; row = row })) a.first_row (a.last_row + 1 - a.first_row) q.row at_col i.row_from (omega arith) in
     subst (λ sheet. p (record { sheet = sheet; col = q.col; row = q.row }) ≡ true) (sym i.same_sheet) at_row
 
 pub all_places : (p : Place → Bool) (a : Rectangle) → ((q : Place) → covers a q ≡ true → p q ≡ true) → list_all p (places a) ≡ true
 all_places p a h =
     by_columns p a
     ∙ all_range (λ col. list_all (λ row. p (record { sheet = a.sheet; col = col; row = row })) (from_to a.first_row a.last_row)) a.first_col (a.last_col + 1 - a.first_col) (λ col from to.
-        all_range (λ row. p (record { sheet = a.sheet; col = col; row = row })) a.first_row (a.last_row + 1 - a.first_row) (λ row above below.
-            h (record { sheet = a.sheet; col = col; row = row })
-                (covered a _ (record { same_sheet = refl; col_from = from; col_to = omega arith; row_from = above; row_to = omega arith }))))
+    all_range (λ row. p (record { sheet = a.sheet; col = col; row = row })) a.first_row (a.last_row + 1 - a.first_row) (λ row above below.
+    h (record { sheet = a.sheet; col = col; row = row })
+    (covered a _ (record { same_sheet = refl; col_from = from; col_to = omega arith; row_from = above; row_to = omega arith }))))

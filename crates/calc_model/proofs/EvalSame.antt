@@ -1,26 +1,20 @@
 -- A formula's value depends on the values of the cells that it reads, and on no others.
-use Rattle.std.proofs.Common.{◌≡◌, ℕ, ℤ, Bool, true, false, ◌&&◌, List, [], ◌∷◌, ◌++◌, map, refl, sym, ap, subst, ◌∙◌, cond, arith, Some}
+use Rattle.std.proofs.Common.{◌≡◌, Bool, true, false, ◌&&◌, List, [], ◌∷◌, ◌++◌, refl, sym, ap, subst, ◌∙◌, cond, arith, Some}
 use Rattle.std.specs.List.{AllByRecursion}
 use Rattle.calc_addr.specs.Cells.{Place, Rectangle, covers}
-use Rattle.calc_addr.specs.References.{Reference, here}
-use Rattle.calc_model.specs.declared.value.Value.{Value}
+use Rattle.calc_addr.specs.References.{here}
 use Rattle.calc_model.specs.declared.value.Value.TheVariants.{Bad}
-use Rattle.calc_model.specs.declared.fault.Fault.{Fault}
 use Rattle.calc_model.specs.declared.fault.Fault.TheVariants.{BadValue, Syntax}
 use Rattle.std.proofs.lemmas.Bool.Decides.{nat_tests}
-use Rattle.calc_model.specs.declared.tree.Op.{Op}
-use Rattle.calc_model.specs.declared.tree.Op.TheVariants.{Pow, Mul, Div, Add, Sub, Cat, Eq, Ne, Lt, Le, Gt, Ge}
 use Rattle.calc_model.specs.declared.tree.Tree.{Tree}
 use Rattle.calc_model.specs.declared.tree.Tree.TheOpen.{Tree-F}
-use Rattle.calc_model.specs.declared.tree.Tree.TheVariants as t
 use Rattle.calc_model.specs.declared.looked.Looked.{Looked}
 use Rattle.calc_model.specs.declared.looked.Looked.TheVariants.{Absent, Gone, At}
 use Rattle.calc_model.specs.Reads.{Names, areas, areas_step, named_areas}
-use Rattle.calc_model.specs.Scalars.{Values, scalar_at, if_covered, one_col, one_row, on_numbers}
+use Rattle.calc_model.specs.Scalars.{Values, scalar_at, if_covered, one_col, one_row}
 use Rattle.calc_model.specs.Eval.{Meaning, meaning, meaning_step, meaning_of_area, meaning_of_name, scalar_alone, binary, eval, is_built}
 use Rattle.calc_model.proofs.TreeFolds as fold
 use Rattle.calc_model.proofs.TreeInduction.{Cases, tree_ind}
-use Rattle.calc_model.proofs.Areas.{Inside, covered}
 
 -- two books' values are the same in these areas
 abbrev pub Agree : Values → Values → List Rectangle → Type 0
@@ -53,8 +47,8 @@ module _ (v w : Values) where
       let in_row : Place = record { sheet = a.sheet; col = a.first_col; row = home.row } in
       let in_col : Place = record { sheet = a.sheet; col = home.col; row = a.first_row } in
       cond_same (one_col a && one_row a) (v corner) (w corner) _ _ (λ e. h corner (corner_covered a e)) (λ _.
-          cond_same (one_col a) (if_covered a in_row v) (if_covered a in_row w) _ _ (λ _. covered_same a in_row h) (λ _.
-              cond_same (one_row a) (if_covered a in_col v) (if_covered a in_col w) (Bad BadValue) (Bad BadValue) (λ _. covered_same a in_col h) (λ _. refl)))
+      cond_same (one_col a) (if_covered a in_row v) (if_covered a in_row w) _ _ (λ _. covered_same a in_row h) (λ _.
+      cond_same (one_row a) (if_covered a in_col v) (if_covered a in_col w) (Bad BadValue) (Bad BadValue) (λ _. covered_same a in_col h) (λ _. refl)))
 
 module _ (home : Place) (names : Names) (v w : Values) where
   -- the meaning is the same where the values are the same in all that is read

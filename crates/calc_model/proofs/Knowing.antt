@@ -1,11 +1,9 @@
 -- Results that are found in any order: each step from known cells is right, and where no formula is
 -- ready any more, every cell shows what it shows in the book.
-use Rattle.std.proofs.Common.{◌≡◌, ℕ, zero, suc, ◌+◌, Bool, true, false, not, ◌||◌, cond, List, refl, sym, ap, subst, ◌∙◌, arith, Option, Some, None, is_some, unwrap_or}
+use Rattle.std.proofs.Common.{◌≡◌, ℕ, zero, suc, ◌+◌, Bool, true, false, not, ◌||◌, cond, refl, sym, ap, subst, ◌∙◌, Option, Some, None, is_some}
 use Rattle.std.specs.Ordering.{eq_by_cmp}
-use Rattle.calc_addr.specs.Cells.{Place, Rectangle, place_cmp}
-use Rattle.calc_model.specs.declared.fault.Fault.TheVariants.{Syntax, Circular}
+use Rattle.calc_addr.specs.Cells.{Place, place_cmp}
 use Rattle.calc_model.specs.declared.value.Value.{Value}
-use Rattle.calc_model.specs.declared.value.Value.TheVariants.{Bad, Blank}
 use Rattle.calc_model.specs.declared.content.Content.{Content}
 use Rattle.calc_model.specs.declared.content.Content.TheVariants.{Empty, Constant, Formula, Raw}
 use Rattle.calc_model.specs.declared.tree.Tree.{Tree}
@@ -59,7 +57,7 @@ module _ (book : Book) where
   pub sound_from_none : (results : Results) → ((p : Place) → results p ≡ None) → IsSound book results
   sound_from_none results none =
       let plain : (p : Place) → is_known book results p ≡ true → is_formula (content_at book p) ≡ false =
-          λ p h. no_result (is_formula (content_at book p)) (subst (λ (o : Option Value). (not (is_formula (content_at book p)) || is_some o) ≡ true) (none p) h) in
+      λ p h. no_result (is_formula (content_at book p)) (subst (λ (o : Option Value). (not (is_formula (content_at book p)) || is_some o) ≡ true) (none p) h) in
       record {
         right = λ p h. constant_right results p (plain p h);
         grounded = λ p h. constant_grounded p (plain p h);
@@ -75,7 +73,7 @@ module _ (book : Book) where
         let read : all_cells (is_known book results) (areas p (area_named book) tree) ≡ true = subst (λ (x : Content). all_cells (is_known book results) (content_areas p (area_named book) x) ≡ true) at h in
         shows_its_value book p tree at (ready_grounded p h)
         ∙ ap top (eval_same p (area_named book) (val book) (shown_by book results) tree
-            (agree_by (is_known book results) (val book) (shown_by book results) (λ q known. sym (sound.right q known)) (areas p (area_named book) tree) read))
+        (agree_by (is_known book results) (val book) (shown_by book results) (λ q known. sym (sound.right q known)) (areas p (area_named book) tree) read))
 
     abbrev found : Place → Tree → Value
     found p tree = top (eval p (area_named book) (shown_by book results) tree)

@@ -1,5 +1,5 @@
 -- The order of cells: it is total, and only equal cells tie.
-use Rattle.std.proofs.Common.{◌≡◌, ℕ, Bool, true, ap, refl}
+use Rattle.std.proofs.Common.{◌≡◌, ℕ, true, ap, refl}
 use Rattle.std.specs.Cmp.{IsTotalOrder, nat_cmp_total}
 use Rattle.std.proofs.lemmas.Cmp.{on_total, then_total}
 use Rattle.std.proofs.lemmas.Map.Lookups.{exact_pairs, exact_unsigned}
@@ -17,7 +17,7 @@ triple p = (p.sheet, (p.col, p.row))
 pub exact_places : (a b : Place) → place_cmp a b ≡ Equal → a ≡ b
 exact_places a b h =
     ap (λ (p : ℕ × (ℕ × ℕ)). record { sheet = p.0; col = p.1.0; row = p.1.1 })
-        (exact_pairs nat_cmp (λ (x y : ℕ × ℕ). ordering_then (nat_cmp x.0 y.0) (nat_cmp x.1 y.1)) exact_unsigned (exact_pairs nat_cmp nat_cmp exact_unsigned exact_unsigned) (triple a) (triple b) h)
+    (exact_pairs nat_cmp (λ (x y : ℕ × ℕ). ordering_then (nat_cmp x.0 y.0) (nat_cmp x.1 y.1)) exact_unsigned (exact_pairs nat_cmp nat_cmp exact_unsigned exact_unsigned) (triple a) (triple b) h)
 
 equal_order : (o : Ordering) → is_eq o ≡ true → o ≡ Equal
 equal_order Less h = cc

@@ -1,10 +1,10 @@
 -- Rounds of grounding: what one round grounds the next one does, and after as many rounds as there are
 -- formulas nothing more is grounded.
-use Rattle.std.proofs.Common.{◌≡◌, ℕ, zero, suc, ◌+◌, ◌-◌, ◌≤◌, ◌<◌, Bool, true, false, not, ◌&&◌, cond, List, [], ◌∷◌, length, refl, sym, ap, subst, ◌∙◌, arith, Option, Some, None, ◌⊎◌, inl, inr, unwrap_or, nat_le}
+use Rattle.std.proofs.Common.{◌≡◌, ℕ, zero, suc, ◌+◌, ◌-◌, ◌≤◌, Bool, true, false, not, List, [], ◌∷◌, refl, ap, subst, arith, Option, Some, None, ◌⊎◌, inl, inr, unwrap_or, nat_le}
 use Rattle.std.proofs.lemmas.Bool.Decides.{nat_tests}
-use Rattle.std.specs.List.{filter, list_all}
+use Rattle.std.specs.List.{list_all}
 use Rattle.std.specs.FinMap.Entries.{find}
-use Rattle.calc_addr.specs.Cells.{Place, Rectangle, place_cmp, places, covers}
+use Rattle.calc_addr.specs.Cells.{Place, Rectangle, place_cmp, places}
 use Rattle.calc_model.specs.declared.content.Content.{Content}
 use Rattle.calc_model.specs.declared.content.Content.TheVariants.{Empty, Constant, Formula, Raw}
 use Rattle.calc_model.specs.Books.{Book, content_at, area_named, is_formula, formula_count}
@@ -135,4 +135,4 @@ module _ (book : Book) where
   pub grounded_by_reads : (p : Place) → all_cells (λ q. not (is_circular book q)) (reads book p) ≡ true → is_circular book p ≡ false
   grounded_by_reads p h =
       grounded_ever (suc (formula_count book + 1)) p
-          (all_cells_more (λ q. not (is_circular book q)) (is_grounded book (formula_count book + 1)) (λ q e. not_circular q (not_true _ e)) (reads book p) h)
+      (all_cells_more (λ q. not (is_circular book q)) (is_grounded book (formula_count book + 1)) (λ q e. not_circular q (not_true _ e)) (reads book p) h)

@@ -1,24 +1,21 @@
 -- What cells show: the fixed point, and how results that are found in any order come to it.
-use Rattle.std.proofs.Common.{◌≡◌, ℕ, zero, suc, ◌+◌, ◌≤◌, Bool, true, false, not, ◌||◌, cond, List, [], ◌∷◌, refl, sym, ap, subst, ◌∙◌, arith, Option, Some, None, is_some, unwrap_or}
+use Rattle.std.proofs.Common.{◌≡◌, ℕ, zero, suc, ◌+◌, Bool, true, false, not, cond, List, [], ◌∷◌, refl, sym, ap, subst, ◌∙◌, arith}
 use Rattle.std.specs.List.{list_all}
-use Rattle.calc_addr.specs.Cells.{Place, Rectangle, places, covers}
-use Rattle.calc_model.specs.declared.fault.Fault.TheVariants.{Syntax, Circular}
-use Rattle.calc_model.specs.declared.value.Value.{Value}
+use Rattle.calc_addr.specs.Cells.{Place, Rectangle, places}
+use Rattle.calc_model.specs.declared.fault.Fault.TheVariants.{Circular}
 use Rattle.calc_model.specs.declared.value.Value.TheVariants.{Bad, Blank}
 use Rattle.calc_model.specs.declared.content.Content.{Content}
 use Rattle.calc_model.specs.declared.content.Content.TheVariants.{Empty, Constant, Formula, Raw}
-use Rattle.calc_model.specs.declared.tree.Tree.{Tree}
 use Rattle.calc_model.specs.Books.{Book, content_at, area_named, is_formula, formula_count}
 use Rattle.calc_model.specs.Reads.{Names, reads, areas, content_areas}
 use Rattle.calc_model.specs.Grounded.{all_cells, is_grounded, is_circular}
 use Rattle.calc_model.specs.Scalars.{Values}
-use Rattle.calc_model.specs.Eval.{eval, top}
+use Rattle.calc_model.specs.Eval.{top}
 use Rattle.calc_model.specs.Val.{cell_value, after_rounds, val}
 use Rattle.calc_model.specs.FixedPoint.{ShowsItsValue, ShowsItsCircle}
-use Rattle.calc_model.specs.Results.{Results, shown_content, shown_by, is_known, is_ready, IsSound, IsFinished, ShowsAll}
 use Rattle.calc_model.proofs.Areas.{both_true, places_all}
 use Rattle.calc_model.proofs.EvalSame.{Agree, eval_same}
-use Rattle.calc_model.proofs.Rounds.{grounded_constant, grounded_later, not_circular, grounded_by_reads}
+use Rattle.calc_model.proofs.Rounds.{not_circular}
 
 -- values that are the same at each cell that passes a test agree in areas whose cells all pass it
 pub agree_by : (passes : Place → Bool) (v w : Values) → ((q : Place) → passes q ≡ true → v q ≡ w q) → (areas : List Rectangle) → all_cells passes areas ≡ true → Agree v w areas
@@ -58,9 +55,9 @@ module _ (book : Book) where
   stable (suc k) j p h =
       let e : suc (j + k) ≡ j + suc k = omega arith in
       let agree : Agree (after_rounds book (j + k)) (after_rounds book k) (reads book p) =
-          agree_by (is_grounded book k) (after_rounds book (j + k)) (after_rounds book k) (stable k j) (reads book p) h in
+      agree_by (is_grounded book k) (after_rounds book (j + k)) (after_rounds book k) (stable k j) (reads book p) h in
       subst (λ n. after_rounds book n p ≡ after_rounds book (suc k) p) e
-          (cell_value_same (area_named book) (is_circular book p) (after_rounds book (j + k)) (after_rounds book k) p (content_at book p) agree)
+      (cell_value_same (area_named book) (is_circular book p) (after_rounds book (j + k)) (after_rounds book k) p (content_at book p) agree)
 
   one_more : formula_count book + 1 ≡ suc (formula_count book)
   one_more = omega arith
@@ -83,7 +80,7 @@ module _ (book : Book) where
   reads_agree : (p : Place) → is_circular book p ≡ false → Agree (after_rounds book (formula_count book)) (val book) (reads book p)
   reads_agree p none =
       agree_by (is_grounded book (formula_count book)) (after_rounds book (formula_count book)) (val book) before_last (reads book p)
-          (subst (λ n. is_grounded book n p ≡ true) one_more (not_circular book p none))
+      (subst (λ n. is_grounded book n p ≡ true) one_more (not_circular book p none))
 
   -- what a cell shows, from what it holds and what the cells that it reads show
   pub val_by_reads : (p : Place) → val book p ≡ cell_value (area_named book) (is_circular book p) (val book) p (content_at book p)

@@ -7,9 +7,9 @@ use Rattle.std.specs.Cmp.Lexicographic.{slice_cmp}
 use Rattle.std.specs.Str.{str_to_ascii_uppercase}
 use Rattle.calc_addr.specs.Cells.{Place, place_cmp}
 use Rattle.calc_model.specs.declared.content.Content.{Content}
-use Rattle.calc_model.specs.declared.content.Content.TheVariants.{Empty, Constant, Formula, Raw}
+use Rattle.calc_model.specs.declared.content.Content.TheVariants.{Empty, Formula}
 use Rattle.calc_model.specs.declared.looked.Looked.{Looked}
-use Rattle.calc_model.specs.declared.looked.Looked.TheVariants.{Absent, Gone, At}
+use Rattle.calc_model.specs.declared.looked.Looked.TheVariants.{Absent}
 
 -- Both maps are lists of their entries in rising order: cells in the order of cells, and names, which
 -- stand in ASCII capitals, by their bytes.

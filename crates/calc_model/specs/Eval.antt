@@ -1,12 +1,11 @@
 -- What a formula gives over the values of a book, after OpenFormula's evaluation of expressions.
-use Rattle.std.specs.Prelude.{ℤ, pos, ◌==◌, ◌&&◌, Bool, true, false, List, Option, Some, None, if◌then◌else◌}
+use Rattle.std.specs.Prelude.{pos, ◌&&◌, Bool, true, false, Option, Some, None, if◌then◌else◌}
 use Rattle.calc_num.specs.Decimals.{checked}
 use Rattle.std.specs.Prelude.{◌+ℤ◌}
 use Rattle.calc_addr.specs.Cells.{Place, Rectangle}
-use Rattle.calc_addr.specs.References.{Reference, here}
+use Rattle.calc_addr.specs.References.{here}
 use Rattle.calc_addr.specs.declared.reference.Span.{Span}
 use Rattle.calc_addr.specs.declared.reference.Span.TheVariants.{One}
-use Rattle.calc_model.specs.declared.fault.Fault.{Fault}
 use Rattle.calc_model.specs.declared.fault.Fault.TheVariants.{BadRef, BadName, Syntax}
 use Rattle.calc_model.specs.declared.value.Value.{Value}
 use Rattle.calc_model.specs.declared.value.Value.TheVariants.{Number, Words, Bad, Blank}

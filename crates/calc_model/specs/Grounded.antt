@@ -1,7 +1,7 @@
 -- Circles of reading. A cell is grounded after k rounds if it holds no formula, or if k is above 0 and
 -- each cell that it reads is grounded after k - 1 rounds. A cell that is not grounded after one round
 -- more than the book has formulas reaches a circle.
-use Rattle.std.specs.Prelude.{ℕ, zero, suc, ◌+◌, Bool, true, false, not, List}
+use Rattle.std.specs.Prelude.{ℕ, zero, suc, ◌+◌, Bool, not, List}
 use Rattle.std.specs.List.{list_all}
 use Rattle.calc_addr.specs.Cells.{Place, Rectangle, places}
 use Rattle.calc_model.specs.Books.{Book, content_at, is_formula, formula_count}

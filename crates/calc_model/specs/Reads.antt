@@ -9,9 +9,9 @@ use Rattle.calc_model.specs.declared.tree.Tree.{Tree}
 use Rattle.calc_model.specs.declared.tree.Tree.TheOpen.{Tree-F}
 use Rattle.calc_model.specs.declared.tree.Tree.TheFolds.{fold-Tree}
 use Rattle.calc_model.specs.declared.content.Content.{Content}
-use Rattle.calc_model.specs.declared.content.Content.TheVariants.{Empty, Constant, Formula, Raw}
+use Rattle.calc_model.specs.declared.content.Content.TheVariants.{Formula}
 use Rattle.calc_model.specs.declared.looked.Looked.{Looked}
-use Rattle.calc_model.specs.declared.looked.Looked.TheVariants.{Absent, Gone, At}
+use Rattle.calc_model.specs.declared.looked.Looked.TheVariants.{At}
 use Rattle.calc_model.specs.Books.{Book, content_at, area_named}
 
 -- what each name stands for

@@ -1,5 +1,5 @@
 -- Results of formulas that are known so far, on the way to what every cell shows.
-use Rattle.std.specs.Prelude.{◌≡◌, Bool, true, false, not, ◌||◌, Option, Some, None, is_some, unwrap_or, cond}
+use Rattle.std.specs.Prelude.{◌≡◌, Bool, true, false, not, ◌||◌, Option, Some, is_some, unwrap_or, cond}
 use Rattle.std.specs.Ordering.{eq_by_cmp}
 use Rattle.calc_addr.specs.Cells.{Place, place_cmp}
 use Rattle.calc_model.specs.declared.fault.Fault.TheVariants.{Syntax, Circular}
@@ -7,7 +7,7 @@ use Rattle.calc_model.specs.declared.value.Value.{Value}
 use Rattle.calc_model.specs.declared.value.Value.TheVariants.{Bad, Blank}
 use Rattle.calc_model.specs.declared.content.Content.{Content}
 use Rattle.calc_model.specs.declared.content.Content.TheVariants.{Empty, Constant, Formula, Raw}
-use Rattle.calc_model.specs.Books.{Book, content_at, area_named, is_formula}
+use Rattle.calc_model.specs.Books.{Book, content_at, is_formula}
 use Rattle.calc_model.specs.Grounded.{all_cells, is_circular}
 use Rattle.calc_model.specs.Reads.{reads}
 use Rattle.calc_model.specs.Scalars.{Values}

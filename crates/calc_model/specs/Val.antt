@@ -1,11 +1,11 @@
 -- What each cell of a book shows, evaluated alone from scratch: round after round from the cells that
 -- hold no formula, as many rounds as there are formulas and one more. A cell that reaches a circle of
 -- reading shows that, and nothing else of its formula counts.
-use Rattle.std.specs.Prelude.{ℕ, zero, suc, ◌+◌, Bool, true, false, if◌then◌else◌}
+use Rattle.std.specs.Prelude.{ℕ, zero, suc, ◌+◌, Bool, true, if◌then◌else◌}
 use Rattle.calc_addr.specs.Cells.{Place}
 use Rattle.calc_model.specs.declared.fault.Fault.TheVariants.{Syntax, Circular}
 use Rattle.calc_model.specs.declared.value.Value.{Value}
-use Rattle.calc_model.specs.declared.value.Value.TheVariants.{Number, Words, Bad, Blank}
+use Rattle.calc_model.specs.declared.value.Value.TheVariants.{Bad, Blank}
 use Rattle.calc_model.specs.declared.content.Content.{Content}
 use Rattle.calc_model.specs.declared.content.Content.TheVariants.{Empty, Constant, Formula, Raw}
 use Rattle.calc_model.specs.Books.{Book, content_at, area_named, formula_count}

@@ -5,6 +5,7 @@
 mod content;
 mod edit;
 mod fault;
+mod laws;
 mod list;
 mod looked;
 mod text;
@@ -14,8 +15,9 @@ mod value;
 pub use content::{Constant, Content, Formula};
 pub use edit::Edit;
 pub use fault::Fault;
+pub use laws::fixed_point;
 pub use list::List;
 pub use looked::Looked;
 pub use text::Text;
 pub use tree::{Op, Tree};
-pub use value::{Seen, Value};
+pub use value::{Seen, Value, show, to_number};

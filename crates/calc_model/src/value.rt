@@ -1,4 +1,6 @@
-ghost use Rattle.std.specs.Prelude.{◌≡◌, IfOk};
+ghost use Rattle.std.specs.Prelude.{◌≡◌, ◌++◌, pos, IfOk, OnOk, OnErr};
+ghost use Rattle.calc_model.specs.Scalars.{number_of};
+ghost use Rattle.calc_model.specs.Values.{lent, text_of};
 
 use crate::fault::Fault;
 use crate::text::Text;
@@ -35,5 +37,50 @@ impl Value {
             Value::Bad(fault) => Ok(Value::Bad(*fault)),
             Value::Blank => Ok(Value::Blank),
         }
+    }
+}
+
+impl Value {
+    /// The value, lent.
+    pub fn seen(&self) -> Seen<'_>
+        ensures { lent result ≡ self.now }
+    {
+        match self {
+            Value::Number(number) => Seen::Number(*number),
+            Value::Words(text) => Seen::Words(text),
+            Value::Bad(fault) => Seen::Bad(*fault),
+            Value::Blank => Seen::Blank,
+        }
+    }
+}
+
+/// The value as a number: blank is 0, a text is `BadValue`, and an error is itself.
+pub fn to_number(value: &Value) -> Result<Num, Fault>
+    ensures { result ≡ number_of value.now }
+{
+    match value {
+        Value::Number(number) => Ok(*number),
+        Value::Words(_) => Err(Fault::BadValue),
+        Value::Bad(fault) => Err(*fault),
+        Value::Blank => Ok(zero()),
+    }
+}
+
+fn zero() -> Num
+    ensures { result ≡ pos 0 }
+{
+    Num::from_raw(0).unwrap()
+}
+
+/// Appends the printed text of a value. Where memory is refused, `out` is as before.
+pub fn show(seen: Seen<'_>, out: &mut Vec<u8>) -> Result<(), NoMemory>
+    ensures ok { OnOk result (out.new.items ≡ out.old.items ++ text_of (lent seen.entry)) }
+    ensures err { OnErr result (out.new.items ≡ out.old.items) }
+{
+    match seen {
+        Seen::Number(number) => out.extend_from_slice(number.write().bytes()),
+        Seen::Words(text) => out.extend_from_slice(text.as_str().as_bytes()),
+        Seen::Bad(fault) => out.extend_from_slice(fault.text().as_bytes()),
+        Seen::Blank => Ok(()),
     }
 }
