@@ -1,4 +1,5 @@
-ghost use Rattle.std.specs.Prelude.{◌≡◌, ◌+◌, ◌-◌, ◌≤◌, ◌^◌, min};
+ghost use Rattle.std.specs.Prelude.{◌≡◌, ◌↔◌, ◌≤◌, IsTrue, Contains};
+ghost use Rattle.calc_io.specs.Faults.{one_more};
 
 /// A call couldn't be done, and the object that answers so has counted a fault.
 #[derive(Clone, Copy, Debug, PartialEq, Eq)]
@@ -7,8 +8,34 @@ pub struct Failed;
 /// Counts one more fault, up to the last value of the count.
 pub(crate) fn count_fault(faults: &mut u64) -> Failed
     ensures later { faults.old ≤ faults.new }
-    ensures counted { faults.new ≡ min (faults.old + 1) (2 ^ 64 - 1) }
+    ensures counted { faults.new ≡ one_more faults.old }
 {
     *faults = faults.saturating_add(1);
     Failed
+}
+
+/// Which calls of an object are to fail, by their numbers from 1 on.
+#[derive(Drop)]
+pub(crate) struct Failing {
+    numbers: Vec<u64>,
+    calls: u64,
+}
+
+impl Failing {
+    pub(crate) fn new(numbers: Vec<u64>) -> Failing
+        ensures numbers { result.numbers ≡ numbers }
+        ensures calls { result.calls ≡ 0 }
+    {
+        Failing { numbers, calls: 0 }
+    }
+
+    /// Counts a call, and says whether it is to fail.
+    pub(crate) fn call_fails(&mut self) -> bool
+        ensures call { self.new.calls ≡ one_more self.old.calls }
+        ensures listed { IsTrue result ↔ Contains self.old.numbers.items self.new.calls }
+        ensures same { self.new.numbers ≡ self.old.numbers }
+    {
+        self.calls = self.calls.saturating_add(1);
+        self.numbers.contains(&self.calls)
+    }
 }

@@ -5,13 +5,17 @@
 #![tactic(auto)]
 
 mod desk;
+mod edge;
 mod faults;
+mod memory;
 mod page;
 mod shelf;
 mod sink;
 mod steady;
 
 pub use desk::Desk;
+pub use edge::{PipeDesk, PipeSink};
 pub use faults::Failed;
+pub use memory::{MemoryDesk, MemorySink};
 pub use sink::Sink;
 pub use steady::{SteadyDesk, SteadySink};

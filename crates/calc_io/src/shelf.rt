@@ -1,11 +1,11 @@
-ghost use Rattle.std.specs.Prelude.{◌≡◌, ◌↔◌, ◌+◌, ◌-◌, ◌<◌, ◌≤◌, ◌^◌, if◌then◌else◌, [], min, drop, Some, position, IsSome, IsOk, OnOk, OnErr, is_ok};
+ghost use Rattle.std.specs.Prelude.{◌≡◌, ◌↔◌, ◌<◌, [], drop, Some, position, IsSome, IsTrue};
+ghost use Rattle.std.specs.Bool.{OnTrue, OnFalse};
 ghost use Rattle.calc_io.specs.Desk.{book_of, kept_books};
 ghost use Rattle.calc_io.specs.Shelf.{is_named, open_bytes, shelf_books, book_rest, script_rest, Gives};
 
-use crate::faults::{Failed, count_fault};
 use calc_model::Text;
 
-/// Books and a script in memory, how far they are read, and how many calls have failed.
+/// Books and a script in memory, and how far they are read.
 #[derive(Drop)]
 pub(crate) struct Shelf {
     books: Vec<(Text, Vec<u8>)>,
@@ -14,7 +14,6 @@ pub(crate) struct Shelf {
     book_read: usize,
     script: Vec<u8>,
     script_read: usize,
-    faults: u64,
 }
 
 impl Shelf {
@@ -22,7 +21,6 @@ impl Shelf {
         ensures books { shelf_books result ≡ kept_books books.items }
         ensures unopened { book_rest result ≡ [] }
         ensures script { script_rest result ≡ script.items }
-        ensures faults { result.faults ≡ 0 }
     {
         Shelf {
             books,
@@ -30,26 +28,23 @@ impl Shelf {
             book_read: 0,
             script,
             script_read: 0,
-            faults: 0,
         }
     }
 
-    /// Opens the first book of that name. Where there is none, it counts a fault.
-    pub(crate) fn open(&mut self, name: &Text) -> Result<(), Failed>
-        ensures found { IsOk result ↔ IsSome (book_of (shelf_books self.old) name.now) }
-        ensures opened { OnOk result (book_of (shelf_books self.old) name.now ≡ Some (book_rest self.new)) }
-        ensures unknown { OnErr result (book_rest self.new ≡ book_rest self.old) }
-        ensures later { self.old.faults ≤ self.new.faults }
-        ensures counted { self.new.faults ≡ (if is_ok result then self.old.faults else min (self.old.faults + 1) (2 ^ 64 - 1)) }
+    /// Opens the first book of that name, and says whether there is one.
+    pub(crate) fn open(&mut self, name: &Text) -> bool
+        ensures found { IsTrue result ↔ IsSome (book_of (shelf_books self.old) name.now) }
+        ensures opened { OnTrue result (book_of (shelf_books self.old) name.now ≡ Some (book_rest self.new)) }
+        ensures unknown { OnFalse result (book_rest self.new ≡ book_rest self.old) }
         ensures same_books { shelf_books self.new ≡ shelf_books self.old }
         ensures same_script { script_rest self.new ≡ script_rest self.old }
     {
         let Some(place) = find_book(&self.books, name) else {
-            return Err(count_fault(&mut self.faults));
+            return false;
         };
         self.opened = Some(place);
         self.book_read = 0;
-        Ok(())
+        true
     }
 
     /// Moves bytes of the open book to the front of `buf`, at most so many.
@@ -58,7 +53,6 @@ impl Shelf {
         ensures gives { Gives (book_rest self.old) (book_rest self.new) result buf.old buf.new most }
         ensures same_books { shelf_books self.new ≡ shelf_books self.old }
         ensures same_script { script_rest self.new ≡ script_rest self.old }
-        ensures same_faults { self.new.faults ≡ self.old.faults }
     {
         let book = opened_book(&self.books, self.opened);
         give(book, &mut self.book_read, buf, most)
@@ -70,7 +64,6 @@ impl Shelf {
         ensures gives { Gives (script_rest self.old) (script_rest self.new) result buf.old buf.new most }
         ensures same_books { shelf_books self.new ≡ shelf_books self.old }
         ensures same_book { book_rest self.new ≡ book_rest self.old }
-        ensures same_faults { self.new.faults ≡ self.old.faults }
     {
         give(&self.script, &mut self.script_read, buf, most)
     }

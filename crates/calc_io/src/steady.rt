@@ -4,7 +4,7 @@ ghost use Rattle.calc_io.specs.Desk.{kept_books};
 ghost use Rattle.calc_io.specs.Shelf.{shelf_books, book_rest, script_rest};
 
 use crate::desk::Desk;
-use crate::faults::Failed;
+use crate::faults::{Failed, count_fault};
 use crate::page::Page;
 use crate::shelf::Shelf;
 use crate::sink::Sink;
@@ -16,6 +16,7 @@ use std::alloc::Global;
 #[derive(Drop)]
 pub struct SteadyDesk {
     shelf: Shelf,
+    faults: u64,
 }
 
 impl SteadyDesk {
@@ -29,6 +30,7 @@ impl SteadyDesk {
     {
         SteadyDesk {
             shelf: Shelf::new(books, script),
+            faults: 0,
         }
     }
 }
@@ -40,14 +42,18 @@ impl Desk for SteadyDesk {
 
     ghost script_left = { λ desk. Some (script_rest desk.shelf) };
 
-    ghost faults = { λ desk. desk.shelf.faults };
+    ghost faults = { λ desk. desk.faults };
 
     ghost calm = { λ _. true };
 
     ghost tells = { λ desk calm. Prim.search rules };
 
     fn open_book(&mut self, name: &Text) -> Result<(), Failed> {
-        self.shelf.open(name)
+        if self.shelf.open(name) {
+            Ok(())
+        } else {
+            Err(count_fault(&mut self.faults))
+        }
     }
 
     fn read_book(&mut self, buf: &mut [u8]) -> Result<usize, Failed> {
@@ -63,6 +69,7 @@ impl Desk for SteadyDesk {
 #[derive(Drop)]
 pub struct SteadySink {
     page: Page,
+    faults: u64,
 }
 
 impl SteadySink {
@@ -74,6 +81,7 @@ impl SteadySink {
     {
         Ok(SteadySink {
             page: Page::new(alloc, room)?,
+            faults: 0,
         })
     }
 
@@ -90,9 +98,12 @@ impl Sink for SteadySink {
 
     ghost room = { λ sink. Some sink.page.room };
 
-    ghost faults = { λ sink. sink.page.faults };
+    ghost faults = { λ sink. sink.faults };
 
     fn write(&mut self, piece: &[u8]) -> Result<usize, Failed> {
-        self.page.write(piece, usize::MAX)
+        match self.page.write(piece, usize::MAX) {
+            Some(taken) => Ok(taken),
+            None => Err(count_fault(&mut self.faults)),
+        }
     }
 }
