@@ -3,3 +3,6 @@ pub mod Cuts
 pub mod Digits
 pub mod Parts
 mod Examples
+pub mod Order
+pub mod Places
+pub mod RoundTrip

@@ -1,9 +1,10 @@
 -- Sheets, cells and areas. Sixteen sheets with the numbers 0 to 15, each of 1,024 columns and
 -- 1,048,576 rows, which are counted from 1.
-use Rattle.std.specs.Prelude.{ℕ, Bool, ◌+◌, ◌-◌, ◌≤◌, ◌&&◌, ◌==◌, nat_le, List, map}
+use Rattle.std.specs.Prelude.{◌≡◌, ℕ, Bool, ◌+◌, ◌-◌, ◌≤◌, ◌&&◌, ◌==◌, nat_le, List, map}
 use Rattle.std.specs.List.{flat_map, range_with_len}
 use Rattle.std.specs.Ordering.{nat_cmp, ordering_then}
 use Rattle.std.specs.declared.cmp.Ordering.{Ordering}
+use Rattle.std.specs.declared.cmp.Ordering.TheVariants.{Less}
 
 -- where a cell lies
 pub record Place : Type 0 where
@@ -22,6 +23,10 @@ pub record IsPlace (p : Place) : Type 0 where
 -- the order of cells: by sheet, then column, then row
 abbrev pub place_cmp : Place → Place → Ordering
 place_cmp a b = ordering_then (nat_cmp a.sheet b.sheet) (ordering_then (nat_cmp a.col b.col) (nat_cmp a.row b.row))
+
+-- p comes before q in that order
+abbrev pub IsBefore : Place → Place → Type 0
+IsBefore p q = place_cmp p q ≡ Less
 
 -- a rectangle of one sheet, with both ends in it
 pub record Rectangle : Type 0 where

@@ -5,11 +5,13 @@
 #![tactic(auto)]
 
 mod cell;
+mod laws;
 mod read;
 mod reference;
 mod write;
 
 pub use cell::{Area, Cell, LAST_COL, LAST_ROW, LAST_SHEET, Run};
+pub use laws::{areas_list_their_cells, cells_read_back};
 pub use read::{Spelled, read_area, read_cell};
 pub use reference::{Marks, Ref, Span};
 use std::alloc::AllocError;
