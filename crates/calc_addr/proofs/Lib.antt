@@ -6,3 +6,4 @@ mod Examples
 pub mod Order
 pub mod Places
 pub mod RoundTrip
+pub mod Walking

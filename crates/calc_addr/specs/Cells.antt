@@ -1,6 +1,6 @@
 -- Sheets, cells and areas. Sixteen sheets with the numbers 0 to 15, each of 1,024 columns and
 -- 1,048,576 rows, which are counted from 1.
-use Rattle.std.specs.Prelude.{◌≡◌, ℕ, Bool, ◌+◌, ◌-◌, ◌≤◌, ◌&&◌, ◌==◌, nat_le, List, map}
+use Rattle.std.specs.Prelude.{◌≡◌, ℕ, Bool, true, ◌+◌, ◌-◌, ◌≤◌, ◌&&◌, ◌==◌, nat_le, nat_lt, if◌then◌else◌, List, [], ◌++◌, map, Option, None, Some}
 use Rattle.std.specs.List.{flat_map, range_with_len}
 use Rattle.std.specs.Ordering.{nat_cmp, ordering_then}
 use Rattle.std.specs.declared.cmp.Ordering.{Ordering}
@@ -62,6 +62,32 @@ abbrev pub places : Rectangle → List Place
 places a =
     flat_map (λ col. map (λ row. record { sheet = a.sheet; col = col; row = row }) (from_to a.first_row a.last_row))
     (from_to a.first_col a.last_col)
+
+-- the cells of one column between two rows
+abbrev pub column_places : ℕ → ℕ → ℕ → ℕ → List Place
+column_places sheet col first last = map (λ row. record { sheet = sheet; col = col; row = row }) (from_to first last)
+
+-- the cells of a rectangle from one of them on, in area order
+abbrev pub places_from : Rectangle → Option Place → List Place
+places_from a None = []
+places_from a (Some p) =
+    column_places a.sheet p.col p.row a.last_row
+    ++ flat_map (λ col. column_places a.sheet col a.first_row a.last_row) (from_to (p.col + 1) a.last_col)
+
+-- the first cell of a rectangle in area order
+abbrev pub corner : Rectangle → Place
+corner a = record { sheet = a.sheet; col = a.first_col; row = a.first_row }
+
+-- the cell of the rectangle behind one of its cells, if there is one
+abbrev pub place_after : Rectangle → Place → Option Place
+place_after a p =
+    if nat_lt p.row a.last_row then Some (record p { row = p.row + 1 })
+    else (if nat_lt p.col a.last_col then Some (record p { col = p.col + 1; row = a.first_row }) else None)
+
+-- a cell of the rectangle, if there is one
+abbrev pub IsInArea : Rectangle → Option Place → Type 0
+IsInArea a None = Unit {0}
+IsInArea a (Some p) = covers a p ≡ true
 
 -- the rectangle of one cell
 abbrev pub single : Place → Rectangle

@@ -8,6 +8,7 @@ mod cell;
 mod laws;
 mod read;
 mod reference;
+mod walk;
 mod write;
 
 pub use cell::{Area, Cell, LAST_COL, LAST_ROW, LAST_SHEET, Run};
@@ -15,6 +16,7 @@ pub use laws::{areas_list_their_cells, cells_read_back};
 pub use read::{Spelled, read_area, read_cell};
 pub use reference::{Marks, Ref, Span};
 use std::alloc::AllocError;
+pub use walk::AreaCells;
 pub use write::{AddrText, write_cell};
 
 /// Want of memory.

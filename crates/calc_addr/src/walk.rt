@@ -1,0 +1,84 @@
+ghost use Rattle.calc_addr.specs.Cells.{IsInArea, corner, covers, place_after, places, places_from};
+ghost use Rattle.std.specs.Iterator.{YieldsFirst, item_count};
+ghost use Rattle.std.specs.Prelude.{◌≡◌, true};
+
+use crate::cell::{Area, Cell};
+use std::marker::Model;
+
+/// The cells of an area that are still to come, in area order. Contracts see them as their list.
+#[derive(Clone, Debug, Drop)]
+pub struct AreaCells {
+    area: Area,
+    next: Option<Cell>,
+}
+
+impl Model for AreaCells {
+    ghost use Rattle.calc_addr.specs.Cells.{IsInArea, Place, places_from};
+    ghost use Rattle.std.specs.Prelude.{List};
+
+    ghost Value = { List Place };
+
+    ghost view = { λ cells. places_from cells.area cells.next };
+
+    ghost invariant = { λ cells. IsInArea cells.area cells.next };
+}
+
+impl Area {
+    /// Its cells in area order: column by column, downwards.
+    pub fn cells(self) -> AreaCells
+        ensures { result ≡ places self }
+    {
+        AreaCells {
+            area: self,
+            next: Some(self.corner()),
+        }
+    }
+
+    /// The first cell in area order.
+    fn corner(self) -> Cell
+        ensures first { result ≡ corner self }
+        ensures in_area { covers self result ≡ true }
+    {
+        Cell {
+            sheet: self.sheet,
+            col: self.first_col,
+            row: self.first_row,
+        }
+    }
+
+    /// The cell of the area behind this one in area order, if there is one.
+    fn after(self, cell: Cell) -> Option<Cell>
+        requires { covers self cell ≡ true }
+        ensures next { result ≡ place_after self cell }
+        ensures in_area { IsInArea self result }
+    {
+        if cell.row < self.last_row {
+            Some(Cell {
+                row: cell.row + 1,
+                ..cell
+            })
+        } else if cell.col < self.last_col {
+            Some(Cell {
+                col: cell.col + 1,
+                row: self.first_row,
+                ..cell
+            })
+        } else {
+            None
+        }
+    }
+}
+
+impl Iterator for AreaCells {
+    type Item = Cell;
+
+    ghost next_gives = { YieldsFirst (λ cells. cells) };
+
+    ghost remaining = { item_count (λ cells. cells) };
+
+    fn next(&mut self) -> Option<Cell> {
+        let cell = self.next?;
+        self.next = self.area.after(cell);
+        Some(cell)
+    }
+}
