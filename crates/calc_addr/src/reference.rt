@@ -1,4 +1,6 @@
-use crate::cell::Area;
+ghost use Rattle.std.specs.Prelude.{◌≡◌};
+
+use crate::cell::{Area, Cell};
 use std::marker::Model;
 
 /// How a reference was spelled.
@@ -44,4 +46,22 @@ impl Model for Ref {
     ghost invariant = { λ r. IsReference (record { area = r.area; span = r.span; marks = r.marks }) };
 
     ghost inverse = { λ r. record { area = r.area; span = r.span; marks = r.marks } };
+}
+
+impl Ref {
+    ghost use Rattle.calc_addr.specs.References.{here};
+
+    /// The area for a formula at `home`.
+    pub fn here(self, home: Cell) -> Area
+        ensures { result ≡ here self home }
+    {
+        if self.marks.sheet {
+            self.area
+        } else {
+            Area {
+                sheet: home.sheet,
+                ..self.area
+            }
+        }
+    }
 }

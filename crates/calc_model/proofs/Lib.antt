@@ -7,3 +7,4 @@ pub mod Shown
 pub mod Knowing
 pub mod Places
 pub mod Counting
+pub mod Readiness

@@ -7,9 +7,10 @@ use Rattle.calc_model.specs.declared.value.Value.{Value}
 use Rattle.calc_model.specs.declared.value.Value.TheVariants.{Bad, Blank}
 use Rattle.calc_model.specs.declared.content.Content.{Content}
 use Rattle.calc_model.specs.declared.content.Content.TheVariants.{Empty, Constant, Formula, Raw}
-use Rattle.calc_model.specs.Books.{Book, content_at, is_formula}
+use Rattle.calc_model.specs.declared.tree.Tree.{Tree}
+use Rattle.calc_model.specs.Books.{Book, content_at, area_named, is_formula}
 use Rattle.calc_model.specs.Grounded.{all_cells, is_circular}
-use Rattle.calc_model.specs.Reads.{reads}
+use Rattle.calc_model.specs.Reads.{reads, areas}
 use Rattle.calc_model.specs.Scalars.{Values}
 use Rattle.calc_model.specs.Val.{val}
 
@@ -29,6 +30,10 @@ shown_by book results cell = shown_content (results cell) (content_at book cell)
 -- whether what the cell shows is known: it holds no formula, or has a result
 abbrev pub is_known : Book → Results → Place → Bool
 is_known book results cell = not (is_formula (content_at book cell)) || is_some (results cell)
+
+-- whether each cell that a formula at home reads is known
+unfoldable pub is_tree_ready : Book → Results → Place → Tree → Bool
+is_tree_ready book results home tree = all_cells (is_known book results) (areas home (area_named book) tree)
 
 -- whether each cell that the cell reads is known
 abbrev pub is_ready : Book → Results → Place → Bool

@@ -7,6 +7,8 @@
 
 mod known;
 mod maps;
+mod ready;
 
 pub use known::is_known;
 pub use maps::{Cells, Results, shown};
+pub use ready::is_ready;
