@@ -1,3 +1,7 @@
 pub mod Digits
 pub mod PrintedBytes
-mod Examples
+pub mod Readings
+pub mod Scale
+pub mod Sizes
+mod PrintingExamples
+mod ReadingExamples

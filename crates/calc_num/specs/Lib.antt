@@ -1,2 +1,4 @@
 pub mod Decimals
 pub mod Numbers
+pub mod Scaling
+pub mod Spelling

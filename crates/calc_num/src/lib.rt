@@ -5,7 +5,9 @@
 #![tactic(auto)]
 
 mod num;
+mod parse;
 mod print;
 
 pub use num::{Num, NumFault};
+pub use parse::Reading;
 pub use print::NumText;

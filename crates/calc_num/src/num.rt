@@ -6,7 +6,7 @@ use std::marker::Model;
 /// The raw number of 1.
 pub(crate) const ONE: u128 = 1_000_000_000;
 /// The first size that is out of range.
-const LIMIT: i128 = 1_000_000_000_000_000_000_000_000_000;
+pub(crate) const LIMIT: u128 = 1_000_000_000_000_000_000_000_000_000;
 
 /// A decimal number. Contracts see its raw number n, which stands for n / 10^9.
 #[derive(Clone, Copy, Debug, PartialEq, Eq)]
@@ -44,7 +44,7 @@ impl Num {
         ensures in_range { IsSome result ↔ IsRaw n }
         ensures value { IfSome result (λ num. num ≡ n) }
     {
-        if -LIMIT < n && n < LIMIT {
+        if n.unsigned_abs() < LIMIT {
             Some(Num { raw: n })
         } else {
             None

@@ -1,4 +1,4 @@
--- Worked examples of the definitions, each computed.
+-- Worked examples of printed numbers, each computed.
 use Rattle.std.proofs.Common.{◌≡◌, ◌*◌, ◌-◌, ◌^◌, pos, neg_ℤ, codes, refl}
 use Rattle.std.specs.Fmt.{digits}
 use Rattle.calc_num.specs.Numbers.{last_digits, printed}

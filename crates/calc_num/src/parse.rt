@@ -1,0 +1,264 @@
+//! The reading of a number.
+ghost use Rattle.std.specs.Prelude.{◌≡◌, ℕ, ◌+◌, ◌-◌, ◌*◌, ◌^◌, ◌==◌, ◌<◌, ◌≤◌, List, [], ◌∷◌, ◌++◌, length, min, ℤ, pos, neg_ℤ, ◌+ℤ◌, ◌<ℤ◌, ◌≤ℤ◌, true, MatchOption};
+ghost use Rattle.std.specs.Char.{is_ascii_digit};
+ghost use Rattle.std.specs.List.{list_all, prefix_len};
+ghost use Rattle.std.specs.Option.{ForSome, option_map};
+ghost use Rattle.calc_num.specs.Scaling.{near, worth, size_of, size_reading};
+ghost use Rattle.calc_num.specs.Spelling.{front_digits, behind_digits, fraction_digits, behind_fraction, is_negative, behind_sign, digits_number, whole_number, signed_whole, exponent, unsigned, reading};
+
+use crate::num::{LIMIT, Num};
+
+/// Exponents of this size and more aren't told apart: no text has so many digits.
+const FAR: u128 = 100_000_000_000_000_000_000;
+
+/// What a text is as a number.
+#[derive(Clone, Copy, Debug, PartialEq, Eq)]
+pub enum Reading {
+    /// The nearest number to the text's exact value.
+    Number(Num),
+    /// A number that is out of range.
+    TooLarge,
+    /// Any other text.
+    NotNumber,
+}
+
+/// How many digits a text begins with.
+fn count_digits(text: &[u8]) -> usize
+    ensures { result ≡ prefix_len is_ascii_digit text.now }
+{
+    let digits = text.iter().take_while(|byte| byte.is_ascii_digit());
+    digits.count()
+}
+
+/// Parts a text behind the digits that it begins with.
+fn split_digits(text: &[u8]) -> (&[u8], &[u8])
+    ensures digits { result.0.now ≡ front_digits text.now }
+    ensures rest { result.1.now ≡ behind_digits text.now }
+{
+    text.split_at(count_digits(text))
+}
+
+/// Parts a text behind a point that it begins with and the digits behind that.
+fn split_fraction(text: &[u8]) -> (&[u8], &[u8])
+    ensures digits { result.0.now ≡ fraction_digits text.now }
+    ensures rest { result.1.now ≡ behind_fraction text.now }
+{
+    match text {
+        [b'.', rest @ ..] => split_digits(rest),
+        _ => (&[], text),
+    }
+}
+
+/// The number that a digit writes.
+fn digit_number(digit: u8) -> u8
+    ensures { result ≡ digit - 48 }
+{
+    digit.saturating_sub(b'0')
+}
+
+/// The number that digits write, or the bound where that is greater.
+fn bounded_number(digits: &[u8]) -> u128
+    ensures { result ≡ min (digits_number digits.now) (10 ^ 20) }
+{
+    let mut number = 0;
+    for digit in digits {
+        number = (10 * number + u128::from(digit_number(*digit))).min(FAR);
+    }
+    number
+}
+
+/// A text of digits alone, at least one, as its number, or as the bound where that is greater.
+fn read_whole(text: &[u8]) -> Option<i128>
+    ensures { result ≡ option_map (λ n. pos (min n (10 ^ 20))) (whole_number text.now) }
+{
+    let rest = split_digits(text).1;
+    if text.is_empty() || !rest.is_empty() {
+        return None;
+    }
+    Some(bounded_number(text) as i128)
+}
+
+/// Parts a text behind the sign that it may begin with, and says whether that is a minus.
+fn split_sign(text: &[u8]) -> (bool, &[u8])
+    ensures negative { result.0 ≡ is_negative text.now }
+    ensures rest { result.1.now ≡ behind_sign text.now }
+{
+    match text {
+        [b'-', rest @ ..] => (true, rest),
+        [b'+', rest @ ..] => (false, rest),
+        _ => (false, text),
+    }
+}
+
+/// Digits with an optional sign, up to the bound on both sides.
+fn read_signed(text: &[u8]) -> Option<i128>
+    ensures { result ≡ option_map near (signed_whole text.now) }
+{
+    let (negative, digits) = split_sign(text);
+    read_whole(digits).map(|n| if negative { -n } else { n })
+}
+
+/// A whole text as an exponent, which is 0 where there is no byte, up to the bound on both sides.
+fn read_exponent(text: &[u8]) -> Option<i128>
+    ensures { result ≡ option_map near (exponent text.now) }
+{
+    match text {
+        [] => Some(0),
+        [b'e' | b'E', rest @ ..] => read_signed(rest),
+        _ => None,
+    }
+}
+
+/// A size in billionths while its digits come in.
+#[derive(Clone, Copy)]
+struct Partial {
+    /// The size so far, or the limit where it is as large as that.
+    size: u128,
+    /// How many places stand before the cut, until the digit behind the cut has rounded the size.
+    places: Option<u128>,
+    ghost small: { size ≤ 10 ^ 27 },
+}
+
+impl Partial {
+    /// Takes in a digit: at one of the places before the cut, as the digit that rounds, or past it.
+    fn push(self, digit: u8) -> Partial
+        ensures { (more : List ℕ) → list_all is_ascii_digit (digit ∷ more) ≡ true
+            → worth result.size result.places more ≡ worth self.size self.places (digit ∷ more) }
+    {
+        let Some(places) = self.places else {
+            return self;
+        };
+        if places > 0 {
+            let size = 10 * self.size + u128::from(digit_number(digit));
+            return Partial {
+                size: size.min(LIMIT),
+                places: Some(places - 1),
+            };
+        }
+        let size = if digit < b'5' {
+            self.size
+        } else {
+            self.size + 1
+        };
+        Partial {
+            size: size.min(LIMIT),
+            places: None,
+        }
+    }
+
+    /// Takes in digits from left to right.
+    fn push_all(self, digits: &[u8]) -> Partial
+        ensures { (more : List ℕ) → list_all is_ascii_digit (digits.now ++ more) ≡ true
+            → worth result.size result.places more ≡ worth self.size self.places (digits.now ++ more) }
+    {
+        let mut partial = self;
+        for digit in digits {
+            partial = partial.push(*digit);
+        }
+        partial
+    }
+
+    /// The size where no more digits come in, or the limit where it is as large as that.
+    fn finish(self) -> u128
+        ensures { result ≡ worth self.size self.places [] }
+    {
+        let Some(places) = self.places else {
+            return self.size;
+        };
+        if self.size == 0 {
+            return 0;
+        }
+        if places >= 27 {
+            return LIMIT;
+        }
+        let size = self.size.checked_mul(10u128.pow(places as u32));
+        size.map_or(LIMIT, |size| size.min(LIMIT))
+    }
+}
+
+/// How many digits stand before the tenth place behind the shifted point, where they are cut off; None
+/// where the cut stands before the first digit.
+fn places_before_cut(count: usize, exponent: i128) -> Option<u128>
+    requires low { neg_ℤ (pos (10 ^ 20)) ≤ℤ exponent }
+    requires high { exponent ≤ℤ pos (10 ^ 20) }
+    ensures { MatchOption result
+        ((pos (count + 9) +ℤ exponent) <ℤ pos 0)
+        (λ places. pos places ≡ pos (count + 9) +ℤ exponent) }
+{
+    let places = count as i128 + 9 + exponent;
+    if places < 0 {
+        None
+    } else {
+        Some(places as u128)
+    }
+}
+
+/// The size in billionths of digits round a point with an exponent, or the limit.
+fn scaled(whole: &[u8], fraction: &[u8], exponent: i128) -> u128
+    requires digits { list_all is_ascii_digit (whole.now ++ fraction.now) ≡ true }
+    requires low { neg_ℤ (pos (10 ^ 20)) ≤ℤ exponent }
+    requires high { exponent ≤ℤ pos (10 ^ 20) }
+    ensures { result
+        ≡ size_of record { whole = whole.now; fraction = fraction.now; exponent = exponent } }
+{
+    match places_before_cut(whole.len(), exponent) {
+        None => 0,
+        Some(places) => {
+            let start = Partial {
+                size: 0,
+                places: Some(places),
+            };
+            start.push_all(whole).push_all(fraction).finish()
+        }
+    }
+}
+
+/// Whether a number has no digit on either side of its point.
+fn is_bare(whole: &[u8], fraction: &[u8]) -> bool
+    ensures { result ≡ (length (whole.now ++ fraction.now) == 0) }
+{
+    whole.is_empty() && fraction.is_empty()
+}
+
+/// The size in billionths of a text that is an unsigned number, or the limit.
+fn read_unsigned(text: &[u8]) -> Option<u128>
+    ensures { result ≡ option_map size_of (unsigned text.now) }
+{
+    let (whole, rest) = split_digits(text);
+    let (fraction, rest) = split_fraction(rest);
+    if is_bare(whole, fraction) {
+        return None;
+    }
+    let exponent = read_exponent(rest)?;
+    Some(scaled(whole, fraction, exponent))
+}
+
+/// The reading of a size with a sign.
+fn signed(negative: bool, size: Option<u128>) -> Reading
+    requires { ForSome size (λ s. s ≤ 10 ^ 27) }
+    ensures { result ≡ size_reading negative size }
+{
+    let Some(size) = size else {
+        return Reading::NotNumber;
+    };
+    let raw = if negative {
+        -(size as i128)
+    } else {
+        size as i128
+    };
+    match Num::from_raw(raw) {
+        Some(number) => Reading::Number(number),
+        None => Reading::TooLarge,
+    }
+}
+
+impl Num {
+    /// Reads a whole text as a number with an optional sign. The cost grows with the text's length
+    /// alone, however large an exponent it writes.
+    pub fn read(text: &[u8]) -> Reading
+        ensures { result ≡ reading text.now }
+    {
+        let (negative, rest) = split_sign(text);
+        signed(negative, read_unsigned(rest))
+    }
+}
