@@ -1,5 +1,5 @@
 -- What stands on a shelf in memory: its books, one of them open or none, and a script.
-use Rattle.std.specs.Prelude.{◌≡◌, ℕ, Bool, List, [], Option, None, Some, Vec, min, length, take, drop, slice_get}
+use Rattle.std.specs.Prelude.{ℕ, Bool, List, [], Option, None, Some, Vec, drop, slice_get}
 use Rattle.std.specs.Str.{bytes_eq}
 use Rattle.std.specs.declared.alloc.Global.{Global}
 use Rattle.std.specs.Option.{option_map_or}
@@ -30,10 +30,3 @@ book_rest shelf = drop shelf.book_read (open_bytes (shelf_books shelf) shelf.ope
 -- what is left of the script
 abbrev pub script_rest : Shelf → List ℕ
 script_rest shelf = drop shelf.script_read shelf.script.items
-
--- Of the old rest so many bytes went to the front of a buffer: as many as there are, as the buffer takes and as may
--- go at once.
-pub record Gives (old new : List ℕ) (count : ℕ) (before after : List ℕ) (most : ℕ) : Type 0 where
-  pub as_many : count ≡ min (min (length old) (length before)) most
-  pub moved : take count after ≡ take count old
-  pub rest : new ≡ drop count old

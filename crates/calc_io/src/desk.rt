@@ -26,12 +26,14 @@ pub trait Desk {
     /// How many calls have failed, up to 2^64 - 1.
     ghost faults: { Self → ℕ };
 
-    /// It tells all of these, and fails only to open a book that it doesn't have.
+    /// It tells all that it has, and counts a fault only where a book is opened that it doesn't have.
+    /// This never changes.
     ghost calm: { Self → Bool };
 
     /// Opens the book of that name at its front, in place of the one that was open.
     fn open_book(&mut self, name: &Text) -> Result<(), Failed>
-        ensures opened { OnOk result (IfSome (told_book (books self.old) name.now) (λ book. book_left self.new ≡ Some book)) }
+        ensures opened { OnOk result (IfSome (told_book (books self.old) name.now) (λ book.
+            book_left self.new ≡ Some book)) }
         ensures unknown { IsUnknown (books self.old) name.now → IsErr result }
         ensures still_open { OnErr result (Keeps (book_left self.old) (book_left self.new)) }
 
@@ -41,7 +43,8 @@ pub trait Desk {
 
         ensures later { faults self.old ≤ faults self.new }
         ensures cause { OnErr result (Rose (faults self.old) (faults self.new)) }
-        ensures no_fault { IsTrue (calm self.old) → IsSome (told_book (books self.old) name.now) → faults self.new ≡ faults self.old };
+        ensures no_fault { IsTrue (calm self.old) → IsSome (told_book (books self.old) name.now)
+            → faults self.new ≡ faults self.old };
 
     /// Moves bytes from the front of what is left of the open book to the front of `buf`, and answers
     /// how many: at least one, unless nothing is left or `buf` is empty. What the rest of `buf` has is
@@ -72,5 +75,6 @@ pub trait Desk {
         ensures no_fault { IsTrue (calm self.old) → faults self.new ≡ faults self.old };
 
     /// A calm desk tells all.
-    ghost tells: { (desk : Self) → IsTrue (calm desk) → IsTold (books desk) (book_left desk) (script_left desk) };
+    ghost tells: { (desk : Self) → IsTrue (calm desk)
+        → IsTold (books desk) (book_left desk) (script_left desk) };
 }

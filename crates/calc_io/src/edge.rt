@@ -3,6 +3,7 @@
 ghost use Rattle.std.specs.Prelude.{◌≡◌, ◌↔◌, ◌<◌, ◌≤◌, length, None, false, IsTrue, IfOk};
 ghost use Rattle.std.specs.IoError.{error_kind};
 ghost use Rattle.std.specs.Io.{ReadsAtMost, WritesAtMost};
+ghost use Rattle.std.specs.Io.KnownBytes.{ReadConsumes, WriteAppends};
 ghost use Rattle.std.proofs.Common.{rules};
 ghost use Rattle.calc_io.specs.Faults.{CountsFailure};
 
@@ -27,6 +28,7 @@ pub struct PipeDesk<'a, R: Files, S: Read + Drop> {
 }
 
 impl<'a, R: Files, S: Read + Drop> PipeDesk<'a, R, S> {
+    /// A desk with no book open.
     pub fn new(files: &'a R, script: S) -> PipeDesk<'a, R, S>
         ensures { ⟦<PipeDesk<'a, R, S> as Desk>⟧.faults result ≡ 0 }
     {
@@ -104,14 +106,15 @@ impl<W: Write + Drop> Sink for PipeSink<W> {
 // Reads once, and again where that was interrupted. A failure is counted.
 fn read_some<R: Read>(reader: &mut R, buf: &mut [u8], faults: &mut u64) -> Result<usize, Failed>
     ensures bound { ReadsAtMost result buf.new }
+    ensures bytes { ReadConsumes (R.remaining reader.old) (R.remaining reader.new) result buf.new }
     ensures later { faults.old ≤ faults.new }
     ensures counted { CountsFailure faults.old faults.new result }
 {
-    for _ in 0..TRIES {
+    'reads: for _ in 0..TRIES {
         match reader.read(buf) {
             Ok(count) => return Ok(count),
             Err(error) if is_interrupted(&error) => {}
-            Err(_) => break,
+            Err(_) => break 'reads,
         }
     }
     Err(count_fault(faults))
@@ -122,14 +125,15 @@ fn read_some<R: Read>(reader: &mut R, buf: &mut [u8], faults: &mut u64) -> Resul
 fn write_some<W: Write>(writer: &mut W, piece: &[u8], faults: &mut u64) -> Result<usize, Failed>
     ensures bound { WritesAtMost result piece.now }
     ensures some { IfOk result (λ taken. 0 < length piece.now → 0 < taken) }
+    ensures bytes { WriteAppends (W.contents writer.old) (W.contents writer.new) result piece.now }
     ensures later { faults.old ≤ faults.new }
     ensures counted { CountsFailure faults.old faults.new result }
 {
-    for _ in 0..TRIES {
+    'writes: for _ in 0..TRIES {
         match writer.write(piece) {
             Ok(taken) if taken > 0 || piece.is_empty() => return Ok(taken),
             Err(error) if is_interrupted(&error) => {}
-            _ => break,
+            _ => break 'writes,
         }
     }
     Err(count_fault(faults))

@@ -1,7 +1,8 @@
 ghost use Rattle.std.specs.Prelude.{◌≡◌, ◌↔◌, ◌<◌, [], drop, Some, position, IsSome, IsTrue};
 ghost use Rattle.std.specs.Bool.{OnTrue, OnFalse};
 ghost use Rattle.calc_io.specs.Desk.{book_of, kept_books};
-ghost use Rattle.calc_io.specs.Shelf.{is_named, open_bytes, shelf_books, book_rest, script_rest, Gives};
+ghost use Rattle.calc_io.specs.Shelf.{is_named, open_bytes, shelf_books, book_rest, script_rest};
+ghost use Rattle.calc_io.specs.Memory.{IsRead};
 
 use calc_model::Text;
 
@@ -50,7 +51,8 @@ impl Shelf {
     /// Moves bytes of the open book to the front of `buf`, at most so many.
     pub(crate) fn read_book(&mut self, buf: &mut [u8], most: usize) -> usize
         requires { 0 < most }
-        ensures gives { Gives (book_rest self.old) (book_rest self.new) result buf.old buf.new most }
+        ensures read { IsRead (book_rest self.old) most buf.new result }
+        ensures left { book_rest self.new ≡ drop result (book_rest self.old) }
         ensures same_books { shelf_books self.new ≡ shelf_books self.old }
         ensures same_script { script_rest self.new ≡ script_rest self.old }
     {
@@ -61,7 +63,8 @@ impl Shelf {
     /// Moves bytes of the script to the front of `buf`, at most so many.
     pub(crate) fn read_script(&mut self, buf: &mut [u8], most: usize) -> usize
         requires { 0 < most }
-        ensures gives { Gives (script_rest self.old) (script_rest self.new) result buf.old buf.new most }
+        ensures read { IsRead (script_rest self.old) most buf.new result }
+        ensures left { script_rest self.new ≡ drop result (script_rest self.old) }
         ensures same_books { shelf_books self.new ≡ shelf_books self.old }
         ensures same_book { book_rest self.new ≡ book_rest self.old }
     {
@@ -92,7 +95,8 @@ fn opened_book(books: &[(Text, Vec<u8>)], opened: Option<usize>) -> &[u8]
 // Moves bytes to the front of `buf`, at most so many, from the place up to which they are read.
 fn give(bytes: &[u8], read: &mut usize, buf: &mut [u8], most: usize) -> usize
     requires { 0 < most }
-    ensures { Gives (drop read.old bytes.now) (drop read.new bytes.now) result buf.old buf.new most }
+    ensures given { IsRead (drop read.old bytes.now) most buf.new result }
+    ensures left { drop read.new bytes.now ≡ drop result (drop read.old bytes.now) }
 {
     let left = bytes.get(*read..).unwrap_or_default();
     let count = left.len().min(buf.len()).min(most);

@@ -34,5 +34,6 @@ pub trait Sink {
 
         ensures later { faults self.old ≤ faults self.new }
         ensures cause { OnErr result (Rose (faults self.old) (faults self.new)) }
-        ensures no_fault { HasRoom (room self.old) (length piece.now) → faults self.new ≡ faults self.old };
+        ensures no_fault { HasRoom (room self.old) (length piece.now)
+            → faults self.new ≡ faults self.old };
 }
