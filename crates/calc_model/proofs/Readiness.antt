@@ -1,11 +1,10 @@
 -- Whether all that a formula reads is known, at each kind of node.
-use Rattle.std.proofs.Common.{◌≡◌, ℕ, ℤ, Bool, true, false, ◌&&◌, List, [], ◌∷◌, map, refl, ap, ◌∙◌}
-use Rattle.std.specs.List.{list_all, flat_map}
+use Rattle.std.proofs.Common.{◌≡◌, ℕ, ℤ, Bool, true, false, ◌&&◌, List, map, refl, ap, ◌∙◌}
+use Rattle.std.specs.List.{list_all}
 use Rattle.std.proofs.lemmas.List.Folds.{list_all-map, list_all-append}
 use Rattle.calc_addr.specs.Cells.{Place, Rectangle, places}
 use Rattle.calc_addr.specs.References.{Reference, here}
 use Rattle.calc_model.specs.declared.fault.Fault.{Fault}
-use Rattle.calc_model.specs.declared.content.Content.{Content}
 use Rattle.calc_model.specs.declared.content.Content.TheVariants.{Formula}
 use Rattle.calc_model.specs.declared.looked.Looked.TheVariants.{Absent}
 use Rattle.calc_model.specs.declared.tree.Op.{Op}

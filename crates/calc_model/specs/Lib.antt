@@ -8,3 +8,5 @@ pub mod Eval
 pub mod Val
 pub mod FixedPoint
 pub mod Results
+pub mod Formulas
+pub mod Fields

@@ -1,5 +1,5 @@
 -- Looking a key up in a map's entries.
-use Rattle.std.proofs.Common.{◌≡◌, List, [], ◌∷◌, Option, Some, cond, refl, ap}
+use Rattle.std.proofs.Common.{◌≡◌, List, [], ◌∷◌, Some, cond, refl, ap}
 use Rattle.std.specs.Map.{lookup}
 use Rattle.std.specs.BTreeMap.{is_at}
 use Rattle.std.specs.FinMap.Entries.{find}

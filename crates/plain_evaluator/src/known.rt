@@ -4,10 +4,9 @@ ghost use Rattle.calc_addr.specs.Cells.{places};
 ghost use Rattle.calc_model.specs.Results.{is_known};
 ghost use Rattle.plain_evaluator.specs.Plain.{book_of, results_of};
 
+use crate::maps::{Cells, Results, content_of, result_of};
 use calc_addr::{Area, Cell};
 use calc_model::Content;
-
-use crate::maps::{Cells, Results, content_of, result_of};
 
 /// Whether what the cell shows is known: it holds no formula, or has a result.
 pub fn is_known(cells: &Cells, results: &Results, cell: Cell) -> bool

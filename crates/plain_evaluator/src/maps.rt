@@ -5,10 +5,9 @@ ghost use Rattle.calc_model.specs.Values.{lent};
 ghost use Rattle.calc_model.specs.Results.{shown_by};
 ghost use Rattle.plain_evaluator.specs.Plain.{book_of, results_of};
 
-use std::collections::BTreeMap;
-
 use calc_addr::Cell;
 use calc_model::{Content, Fault, Seen, Value};
+use std::collections::BTreeMap;
 
 /// What each cell that isn't empty holds.
 pub type Cells = BTreeMap<Cell, Content>;

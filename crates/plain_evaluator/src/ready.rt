@@ -1,21 +1,18 @@
 ghost use Rattle.std.specs.Prelude.{◌≡◌};
 ghost use Rattle.std.specs.List.{list_all};
-ghost use Rattle.calc_model.specs.Books.{area_named};
-ghost use Rattle.calc_model.specs.Reads.{areas};
-ghost use Rattle.calc_model.specs.Grounded.{all_cells};
-ghost use Rattle.calc_model.specs.Results.{is_known};
+ghost use Rattle.calc_model.specs.Results.{is_tree_ready};
 ghost use Rattle.plain_evaluator.specs.Plain.{book_of, results_of};
-
-use calc_addr::Cell;
-use calc_model::Tree;
 
 use crate::known::are_known;
 use crate::maps::{Cells, Results};
+use calc_addr::Cell;
+use calc_model::Tree;
 
 /// Whether each cell that a formula at `home` reads is known.
 #[cycle(readiness)]
+#[tactic(auto, using(crate::proofs::ReadyTrees::readiness))]
 pub fn is_ready(cells: &Cells, results: &Results, home: Cell, tree: &Tree) -> bool
-    ensures { result ≡ all_cells (is_known (book_of cells.now.entries) (results_of results.now.entries)) (areas home (area_named (book_of cells.now.entries)) tree.now) }
+    ensures { result ≡ is_tree_ready (book_of cells.now.entries) (results_of results.now.entries) home tree.now }
 {
     match tree {
         Tree::Ref(reference) => are_known(cells, results, reference.here(home)),
@@ -33,7 +30,7 @@ pub fn is_ready(cells: &Cells, results: &Results, home: Cell, tree: &Tree) -> bo
 
 #[cycle(readiness)]
 fn are_ready(cells: &Cells, results: &Results, home: Cell, trees: &[Tree]) -> bool
-    ensures { result ≡ list_all (λ tree. all_cells (is_known (book_of cells.now.entries) (results_of results.now.entries)) (areas home (area_named (book_of cells.now.entries)) tree)) trees.now }
+    ensures { result ≡ list_all (is_tree_ready (book_of cells.now.entries) (results_of results.now.entries) home) trees.now }
 {
     for tree in trees {
         if !is_ready(cells, results, home, tree) {
