@@ -35,7 +35,7 @@ impl Area {
     }
 
     /// The first cell in area order.
-    fn corner(self) -> Cell
+    pub fn corner(self) -> Cell
         ensures first { result ≡ corner self }
         ensures in_area { covers self result ≡ true }
     {

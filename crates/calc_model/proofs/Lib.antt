@@ -8,3 +8,4 @@ pub mod Knowing
 pub mod Places
 pub mod Counting
 pub mod Readiness
+pub mod Building

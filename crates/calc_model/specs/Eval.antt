@@ -76,9 +76,16 @@ shape_step (Tree-F.Ref reference) = record { one_cell = is_one reference.span; b
 shape_step (Tree-F.Binary op left right) = record { one_cell = false; built = both_cells op left right }
 shape_step _ = record { one_cell = false; built = false }
 
+abbrev pub shape : Tree → Shape
+shape = fold-Tree Shape shape_step
+
+-- a reference to one cell
+unfoldable pub is_one_cell : Tree → Bool
+is_one_cell tree = (shape tree).one_cell
+
 -- So far only the sum of two references to one cell each has a value of its own.
-abbrev pub is_built : Tree → Bool
-is_built tree = (fold-Tree Shape shape_step tree).built
+unfoldable pub is_built : Tree → Bool
+is_built tree = (shape tree).built
 
 -- the value of a formula at home
 abbrev pub eval : Place → Names → Values → Tree → Value

@@ -1,4 +1,4 @@
-ghost use Rattle.std.specs.Prelude.{◌≡◌, ◌++◌, pos, IfOk, OnOk, OnErr};
+ghost use Rattle.std.specs.Prelude.{◌≡◌, ◌++◌, IfOk, OnOk, OnErr};
 ghost use Rattle.calc_model.specs.Scalars.{number_of};
 ghost use Rattle.calc_model.specs.Values.{lent, text_of};
 
@@ -62,14 +62,8 @@ pub fn to_number(value: &Value) -> Result<Num, Fault>
         Value::Number(number) => Ok(*number),
         Value::Words(_) => Err(Fault::BadValue),
         Value::Bad(fault) => Err(*fault),
-        Value::Blank => Ok(zero()),
+        Value::Blank => Ok(Num::default()),
     }
-}
-
-fn zero() -> Num
-    ensures { result ≡ pos 0 }
-{
-    Num::from_raw(0).unwrap()
 }
 
 /// Appends the printed text of a value. Where memory is refused, `out` is as before.

@@ -38,6 +38,17 @@ pub enum NumFault {
     NotNum,
 }
 
+impl Default for Num {
+    ghost use Rattle.std.specs.Prelude.{◌≡◌, pos};
+
+    ghost is_default = { λ n. n ≡ pos 0 };
+
+    /// Zero.
+    fn default() -> Num {
+        Num { raw: 0 }
+    }
+}
+
 impl Num {
     /// The number with the raw number n, if that is in range.
     pub fn from_raw(n: i128) -> Option<Num>

@@ -5,6 +5,7 @@
 //! book whose formulas read to the left and above takes one sweep.
 #![tactic(auto)]
 
+mod eval;
 mod known;
 mod maps;
 mod ready;
