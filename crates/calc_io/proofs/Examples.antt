@@ -3,6 +3,7 @@ use Rattle.std.proofs.Common.{◌≡◌, ◌-◌, ◌^◌, [], ◌∷◌, Some, 
 use Rattle.std.specs.Prelude.{codes}
 use Rattle.calc_io.specs.Desk.{Books, book_of, told_book}
 use Rattle.calc_io.specs.Faults.{one_more}
+use Rattle.calc_io.specs.Memory.{Plan, after_call}
 use Rattle.calc_io.specs.Shelf.{book_at, open_bytes}
 
 -- `a` with the bytes 1, 2, then `b` with 3, then another `a` with 4
@@ -35,3 +36,10 @@ a_fault_is_counted = refl
 
 the_last_count_stays : one_more (2 ^ 64 - 1) ≡ 2 ^ 64 - 1
 the_last_count_stays = refl
+
+-- the second and the third call fail, two calls were made, and a call moves one byte
+abbrev two_made : Plan
+two_made = record { failing = 2 ∷ 3 ∷ []; calls = 2; piece = 1 }
+
+a_call_is_made : (after_call two_made).calls ≡ 3
+a_call_is_made = refl

@@ -1,6 +1,6 @@
 -- What several calls did to known bytes, one after the other. More of it is in std's lemmas on known bytes.
-use Rattle.std.proofs.Common.{ℕ, ◌+◌, List, ◌++◌, Option, None, Some, take, drop, ap, sym, ◌∙◌, subst}
-use Rattle.std.specs.Io.KnownBytes.{Keeps, Appends, Consumes}
+use Rattle.std.proofs.Common.{Result, Ok, Err, ℕ, ◌+◌, List, ◌++◌, Option, None, Some, take, drop, ap, sym, ◌∙◌, subst}
+use Rattle.std.specs.Io.KnownBytes.{Keeps, Appends, Consumes, ReadConsumes}
 use Rattle.std.proofs.KnownBytes.{Appends-trans}
 use Rattle.std.proofs.Math.Seq.{take-add}
 
@@ -23,3 +23,8 @@ pub Appends-taken : (first then last : Option (List ℕ)) (piece : List ℕ) (n 
     → Appends first then (take n piece) → Appends then last (take k (drop n piece)) → Appends first last (take (n + k) piece)
 Appends-taken first then last piece n k front rest =
     subst (Appends first last) (sym (take-add n k piece)) (Appends-trans first then last _ _ front rest)
+
+-- nothing is told of a read of what isn't told
+pub ReadConsumes-untold : {E : Type 0} (result : Result ℕ E) (buf : List ℕ) → ReadConsumes None None result buf
+ReadConsumes-untold (Ok n) buf = (tt, λ _ _. tt)
+ReadConsumes-untold (Err e) buf = tt

@@ -3,3 +3,4 @@ pub mod Desk
 pub mod Sink
 pub mod Shelf
 pub mod Memory
+pub mod Edge
