@@ -1,5 +1,5 @@
 -- Which formulas have a value of their own so far, at each kind of node, and that value.
-use Rattle.std.proofs.Common.{◌≡◌, ℕ, ℤ, Bool, true, false, ◌&&◌, cond, List, ap, ◌∙◌, refl, sym, eq-eqb}
+use Rattle.std.proofs.Common.{◌≡◌, ℕ, ℤ, Bool, true, false, ◌&&◌, cond, List, ap, ◌∙◌, refl, eq-eqb}
 use Rattle.std.specs.Prelude.{◌+ℤ◌}
 use Rattle.calc_num.specs.Decimals.{checked}
 use Rattle.calc_addr.specs.Cells.{Place, Rectangle, corner}
@@ -9,7 +9,6 @@ use Rattle.calc_addr.specs.declared.reference.Span.TheVariants.{One, Cells, Colu
 use Rattle.calc_addr.specs.declared.reference.Marks.{Marks}
 use Rattle.calc_model.specs.declared.fault.Fault.{Fault}
 use Rattle.calc_model.specs.declared.fault.Fault.TheVariants.{Syntax}
-use Rattle.calc_model.specs.declared.value.Value.{Value}
 use Rattle.calc_model.specs.declared.value.Value.TheVariants.{Bad}
 use Rattle.calc_model.specs.declared.tree.Op.{Op}
 use Rattle.calc_model.specs.declared.tree.Op.TheVariants.{Add}
@@ -17,7 +16,7 @@ use Rattle.calc_model.specs.declared.tree.Tree.{Tree}
 use Rattle.calc_model.specs.declared.tree.Tree.TheVariants as t
 use Rattle.calc_model.specs.Reads.{Names}
 use Rattle.calc_model.specs.Scalars.{Values, scalar_at, on_numbers, one_col, one_row}
-use Rattle.calc_model.specs.Eval.{Shape, shape_step, shape, is_one, both_cells, is_one_cell, is_built, Meaning, meaning, meaning_step, binary, scalar_alone, eval}
+use Rattle.calc_model.specs.Eval.{Shape, shape_step, shape, is_one, both_cells, is_one_cell, is_built, Meaning, meaning, meaning_step, binary, eval}
 use Rattle.calc_model.proofs.TreeFolds as fold
 
 pub one_cell-Number : (n : ℤ) → is_one_cell (t.Number n) ≡ false

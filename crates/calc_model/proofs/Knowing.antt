@@ -35,7 +35,7 @@ pub record Unknown (x : Content) (o : Option Value) : Type 0 where
   pub at : x ≡ Formula tree
   pub none : o ≡ None
 
-unknown : (x : Content) (o : Option Value) → (not (is_formula x) || is_some o) ≡ false → Unknown x o
+pub unknown : (x : Content) (o : Option Value) → (not (is_formula x) || is_some o) ≡ false → Unknown x o
 unknown (Formula tree) None h = record { tree = tree; at = refl; none = refl }
 unknown (Formula tree) (Some value) h = cc
 unknown Empty o h = cc

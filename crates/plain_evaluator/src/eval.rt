@@ -6,11 +6,10 @@ ghost use Rattle.calc_model.specs.Results.{shown_by};
 ghost use Rattle.calc_model.specs.Scalars.{number_of, scalar_at};
 ghost use Rattle.plain_evaluator.specs.Plain.{book_of, results_of, sum_of};
 
+use crate::maps::{Cells, Results, content_of, result_of};
 use calc_addr::{Cell, Ref, Span};
 use calc_model::{Content, Fault, Op, Tree, Value, to_number};
 use calc_num::Num;
-
-use crate::maps::{Cells, Results, content_of, result_of};
 
 /// The value of a formula at `home` over what is known. Only the sum of two references to one cell
 /// each has one so far.

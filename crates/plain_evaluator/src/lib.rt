@@ -9,7 +9,9 @@ mod eval;
 mod known;
 mod maps;
 mod ready;
+mod sweep;
 
 pub use known::is_known;
 pub use maps::{Cells, Results, shown};
 pub use ready::is_ready;
+pub use sweep::evaluate;

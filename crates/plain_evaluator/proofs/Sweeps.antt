@@ -1,0 +1,128 @@
+-- What one more result does to what is known of a plain map.
+use Rattle.std.proofs.Common.{◌≡◌, ℕ, ◌<◌, ◌≤◌, Bool, true, false, not, ◌||◌, cond, nat_lt, List, [], ◌∷◌, length, Option, Some, None, is_some, unwrap_or, Bor, refl, sym, ap, subst, ◌∙◌, arith}
+use Rattle.std.proofs.lemmas.Bool.Decides.{nat_tests}
+use Rattle.std.specs.List.{list_all}
+use Rattle.std.specs.Option.{option_copied}
+use Rattle.std.specs.Ordering.{eq_by_cmp, is_eq}
+use Rattle.std.proofs.lemmas.Cmp.{tied_itself}
+use Rattle.std.proofs.lemmas.List.Filters.{length-filter_both}
+use Rattle.std.specs.FinMap.Entries.{find}
+use Rattle.calc_addr.specs.Cells.{Place, place_cmp}
+use Rattle.calc_addr.proofs.Order.{place_cmp_total}
+use Rattle.calc_model.specs.declared.value.Value.{Value}
+use Rattle.calc_model.specs.declared.content.Content.{Content}
+use Rattle.calc_model.specs.declared.content.Content.TheVariants.{Empty, Formula}
+use Rattle.calc_model.specs.declared.tree.Tree.{Tree}
+use Rattle.calc_model.specs.Books.{Book, content_at, area_named, is_formula}
+use Rattle.calc_model.specs.Eval.{eval, top}
+use Rattle.calc_model.specs.Results.{Results, is_known, is_ready, is_tree_ready, shown_by, IsSound, IsFinished, Sets}
+use Rattle.calc_model.proofs.Counting.{count, same_where_counted}
+use Rattle.calc_model.proofs.Places.{same_places}
+use Rattle.calc_model.proofs.Readiness.{ready-Formula}
+use Rattle.calc_model.proofs.Knowing.{sound_with, unknown}
+use Rattle.calc_model.proofs.Areas.{both_true}
+use Rattle.plain_evaluator.specs.Plain.{book_of, known_count, is_settled}
+
+or_true : (b : Bool) → (b || true) ≡ true
+or_true true = refl
+or_true false = refl
+
+module _ (book : Book) (results : Results) (cell : Place) where
+  pub settled_constant : is_formula (content_at book cell) ≡ false → is_settled book results cell ≡ true
+  settled_constant h = ap (λ b. (not b || is_some (results cell)) || not (is_ready book results cell)) h
+
+  pub settled_result : is_some (results cell) ≡ true → is_settled book results cell ≡ true
+  settled_result h = ap (λ b. (not (is_formula (content_at book cell)) || b) || not (is_ready book results cell)) h ∙ ap (λ b. b || not (is_ready book results cell)) (or_true (not (is_formula (content_at book cell))))
+
+  pub settled_unready : (tree : Tree) → content_at book cell ≡ Formula tree → is_tree_ready book results cell tree ≡ false → is_settled book results cell ≡ true
+  settled_unready tree at h = ap (λ b. is_known book results cell || not b) (ready-Formula book results cell tree at ∙ h) ∙ or_true (is_known book results cell)
+
+  pub sound_more : IsSound book results → (new : Results) (tree : Tree) (value : Value) → content_at book cell ≡ Formula tree → is_tree_ready book results cell tree ≡ true → value ≡ top (eval cell (area_named book) (shown_by book results) tree) → Sets results new cell value → IsSound book new
+  sound_more sound new tree value at ready is sets =
+      sound_with book results sound new cell tree at (ready-Formula book results cell tree at ∙ ready) (subst (Sets results new cell) is sets)
+
+no_less : (m n : ℕ) → nat_lt m n ≡ false → n ≤ m
+no_less m n h = grind (arith, nat_tests)
+
+less_by_test : (m n : ℕ) → nat_lt m n ≡ true → m < n
+less_by_test m n h = grind (arith, nat_tests)
+
+pub known_in_cells : (cells : List (Place × Content)) (results : Results) → known_count cells results ≤ length cells
+unfolding known_count
+known_in_cells cells results = omega (arith, length-filter_both (λ entry. is_known (book_of cells) results entry.0) (λ entry. not (is_known (book_of cells) results entry.0)) (λ _. refl) cells)
+
+held_entry : (o : Option Content) (tree : Tree) → unwrap_or o Empty ≡ Formula tree → (x : Content) × (o ≡ Some x)
+held_entry (Some x) tree h = (x, refl)
+held_entry None tree h = cc
+
+found_entry : (cells : List (Place × Content)) (cell : Place) (tree : Tree) → content_at (book_of cells) cell ≡ Formula tree → (x : Content) × (find place_cmp cell cells ≡ Some x)
+unfolding content_at
+found_entry cells cell tree at = held_entry (find place_cmp cell cells) tree at
+
+module _ (cells : List (Place × Content)) (old new : Results) (cell : Place) (value : Value) (sets : Sets old new cell value) where
+  abbrev before : Place → Bool
+  before = is_known (book_of cells) old
+
+  abbrev after : Place → Bool
+  after = is_known (book_of cells) new
+
+  stays_known : (q : Place) → before q ≡ true → after q ≡ true
+  stays_known q h =
+      elim (eq_by_cmp place_cmp cell q) as (λ b. eq_by_cmp place_cmp cell q ≡ b → after q ≡ true) [
+        | true ↦ λ tied.
+            let here : new q ≡ Some value = sets q ∙ ap (λ b. cond b (Some value) (old q)) tied in
+            ap (λ (o : Option Value). not (is_formula (content_at (book_of cells) q)) || is_some o) here ∙ or_true _
+        | false ↦ λ apart.
+            let same : new q ≡ old q = sets q ∙ ap (λ b. cond b (Some value) (old q)) apart in
+            ap (λ (o : Option Value). not (is_formula (content_at (book_of cells) q)) || is_some o) same ∙ h
+      ] refl
+
+  known_here : eq_by_cmp place_cmp cell cell ≡ true → after cell ≡ true
+  known_here tied =
+      let here : new cell ≡ Some value = sets cell ∙ ap (λ b. cond b (Some value) (old cell)) tied in
+      ap (λ (o : Option Value). not (is_formula (content_at (book_of cells) cell)) || is_some o) here ∙ or_true _
+
+  abbrev known_entries : (Place → Bool) → ℕ
+  known_entries f = count place_cmp same_places (λ _. true) f cells
+
+  -- the cell that has its first result counts once more
+  more_entries : (tree : Tree) → content_at (book_of cells) cell ≡ Formula tree → old cell ≡ None → eq_by_cmp place_cmp cell cell ≡ true → nat_lt (known_entries before) (known_entries after) ≡ true
+  more_entries tree at none tied =
+      elim (nat_lt (known_entries before) (known_entries after)) as (λ b. nat_lt (known_entries before) (known_entries after) ≡ b → b ≡ true) [
+        | true ↦ λ less. refl
+        | false ↦ λ no_more.
+            let entry = found_entry cells cell tree at in
+            let known : before cell ≡ true = same_where_counted place_cmp same_places (λ _. true) before after stays_known cells cell entry.0 (no_less (known_entries before) (known_entries after) no_more) entry.1 refl (known_here tied) in
+            let unknown : before cell ≡ false = ap (λ x. not (is_formula x) || is_some (old cell)) at ∙ ap (λ (o : Option Value). is_some o) none in
+            cc
+      ] refl
+
+  pub more_known : (tree : Tree) → content_at (book_of cells) cell ≡ Formula tree → old cell ≡ None → known_count cells old < known_count cells new
+  unfolding known_count
+  more_known tree at none = less_by_test (known_entries before) (known_entries after) (more_entries tree at none (ap is_eq (tied_itself place_cmp_total cell)))
+
+-- an option that holds nothing lends nothing
+pub none_copied : {X : Type 0} (o : Option (Bor X)) → is_some o ≡ false → option_copied o ≡ None
+none_copied None h = refl
+none_copied (Some x) h = cc
+
+-- what each key of a list passes, a key passes that is found in it
+list_all-find : (p : Place → Bool) (cells : List (Place × Content)) (q : Place) (x : Content) → list_all (λ entry. p entry.0) cells ≡ true → find place_cmp q cells ≡ Some x → p q ≡ true
+list_all-find p [] q x all at = cc
+list_all-find p (e ∷ es) q x all at =
+    let parts = both_true (p e.0) (list_all (λ entry. p entry.0) es) all in
+    elim (eq_by_cmp place_cmp q e.0) as (λ b. eq_by_cmp place_cmp q e.0 ≡ b → cond b (Some e.1) (find place_cmp q es) ≡ Some x → p q ≡ true) [
+      | true ↦ λ tied here. subst (λ k. p k ≡ true) (sym (same_places q e.0 tied)) parts.0
+      | false ↦ λ apart rest. list_all-find p es q x parts.1 rest
+    ] refl at
+
+unready : (known ready : Bool) → (known || not ready) ≡ true → known ≡ false → ready ≡ false
+unready known true settled unknown = cc
+unready known false settled unknown = refl
+
+-- a map of which each entry is settled holds no formula that is ready and not known
+pub finished : (cells : List (Place × Content)) (results : Results) → list_all (λ entry. is_settled (book_of cells) results entry.0) cells ≡ true → IsFinished (book_of cells) results
+finished cells results all cell not_known =
+    let is = unknown (content_at (book_of cells) cell) (results cell) not_known in
+    let entry = found_entry cells cell is.tree is.at in
+    unready (is_known (book_of cells) results cell) (is_ready (book_of cells) results cell) (list_all-find (is_settled (book_of cells) results) cells cell entry.0 all entry.1) not_known

@@ -1,0 +1,13 @@
+use Rattle.std.proofs.Common.{sym, ap, ◌∙◌, Some, cond}
+use Rattle.std.specs.Ordering.{eq_by_cmp}
+use Rattle.calc_addr.specs.Cells.{place_cmp}
+use Rattle.plain_evaluator.specs.Plain.{results_of}
+use Rattle.plain_evaluator.proofs.Lookups.{find-lookup}
+use Rattle.plain_evaluator.proofs.sweep.keep.Goals as goal
+
+pub returns-clause-ok : goal.returns-clause-ok
+unfolding results_of
+returns-clause-ok c = λ q.
+    find-lookup place_cmp q c.insert.new.self.entries
+    ∙ c.in_ok-insert.ensures.updates.0 q
+    ∙ ap (cond (eq_by_cmp place_cmp c.args.cell q) (Some c.args.value)) (sym (find-lookup place_cmp q c.args.results.now.entries))

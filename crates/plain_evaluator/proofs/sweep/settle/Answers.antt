@@ -1,0 +1,28 @@
+use Rattle.std.proofs.Common.{◌≡◌, true, false, sym, ap, ◌∙◌}
+use Rattle.calc_model.specs.Results.{is_tree_ready}
+use Rattle.plain_evaluator.specs.Plain.{book_of, results_of}
+use Rattle.plain_evaluator.proofs.Sweeps.{settled_unready, sound_more, more_known, none_copied}
+use Rattle.plain_evaluator.proofs.sweep.settle.Goals as goal
+
+pub returns-then-not-is_ready-clause-settled : goal.returns-then-not-is_ready-clause-settled
+returns-then-not-is_ready-clause-settled c = λ _.
+    let book = book_of c.args.cells.now.entries in
+    let results = results_of c.args.results.now.entries in
+    let unready : is_tree_ready book results c.args.cell c.in-Formula.formula ≡ false =
+    ap (is_tree_ready book results c.args.cell) (sym c.tree.ensures) ∙ sym c.is_ready.ensures ∙ c.if-not-is_ready.true in
+    settled_unready book results c.args.cell c.in-Formula.formula (c.requires.at ∙ c.in-Formula.is) unready
+
+pub returns-clause-sound : goal.returns-clause-sound
+returns-clause-sound c =
+    let book = book_of c.args.cells.now.entries in
+    let results = results_of c.args.results.now.entries in
+    let ready : is_tree_ready book results c.args.cell c.in-Formula.formula ≡ true =
+    ap (is_tree_ready book results c.args.cell) (sym c.tree.ensures) ∙ sym c.is_ready.ensures ∙ c.if-not-is_ready.false in
+    sound_more book results c.args.cell c.requires.sound (results_of c.keep.new.results.entries) c.in-Formula.formula c.top-value.result
+    (c.requires.at ∙ c.in-Formula.is) ready (rw (c.top-value.ensures, c.eval.ensures, c.tree-2.ensures)) c.in_ok-keep.ensures.ok
+
+pub returns-clause-added : goal.returns-clause-added
+returns-clause-added c = λ _.
+    more_known c.args.cells.now.entries (results_of c.args.results.now.entries) (results_of c.keep.new.results.entries) c.args.cell c.top-value.result c.in_ok-keep.ensures.ok
+    c.in-Formula.formula (c.requires.at ∙ c.in-Formula.is)
+    (c.result_of.ensures ∙ none_copied c.result_of.result (sym c.if-is_some.ensures))
