@@ -1,5 +1,5 @@
 -- The digits of a number behind a leading 1.
-use Rattle.std.proofs.Common.{◌≡◌, ℕ, zero, suc, ◌+◌, ◌-◌, ◌*◌, ◌/◌, ◌%◌, ◌^◌, ◌<◌, ◌≤◌, eqb, List, ◌∷◌, ◌++◌, length, take, drop, set, slice_range, ℤ, pos, negsuc, nat_abs, false, refl, ap, subst, ◌∙◌, sym, arith, length-append, append-nil}
+use Rattle.std.proofs.Common.{◌≡◌, ℕ, zero, suc, ◌+◌, ◌-◌, ◌*◌, ◌/◌, ◌%◌, ◌^◌, ◌<◌, ◌≤◌, eqb, List, ◌∷◌, ◌++◌, length, take, drop, set, slice_range, ℤ, pos, negsuc, nat_abs, true, false, refl, ap, subst, ◌∙◌, sym, arith, length-append, append-nil}
 use Rattle.std.specs.Fmt.{decimal}
 use Rattle.std.specs.List.{suffix_len}
 use Rattle.std.proofs.Math.Nat.{pow-suc, one-le-pow}
@@ -63,3 +63,8 @@ minus_placed bytes start end some within ordered =
 pub printed-negative : (z : ℤ) (size : ℕ) → size ≡ nat_abs z → le_z (pos 0) z ≡ false → printed z ≡ 45 ∷ printed_size size
 printed-negative (pos n) size is_size below = absurd (false≢true (sym below ∙ le-leb 0 n (omega arith)))
 printed-negative (negsuc n) size is_size below = ap (λ s. 45 ∷ printed_size s) (sym is_size)
+
+-- any other number prints as its size
+pub printed-positive : (z : ℤ) (size : ℕ) → size ≡ nat_abs z → le_z (pos 0) z ≡ true → printed z ≡ printed_size size
+printed-positive (pos n) size is_size above = ap printed_size (sym is_size)
+printed-positive (negsuc n) size is_size above = absurd (false≢true above)

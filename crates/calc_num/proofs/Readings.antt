@@ -1,18 +1,17 @@
 -- What the parts of an unsigned number are, and what their size comes to.
-use Rattle.std.proofs.Common.{◌≡◌, ℕ, suc, ◌+◌, ◌*◌, ◌^◌, ◌<◌, ◌≤◌, ◌==◌, min, zero, ltb, if◌then◌else◌, Bool, true, false, List, [], ◌∷◌, ◌++◌, length, Option, Some, None, ℤ, pos, neg_ℤ, inl, inr, refl, ap, ◌∙◌, sym, subst, arith}
+use Rattle.std.proofs.Common.{◌≡◌, ℕ, ◌*◌, ◌^◌, ◌<◌, ◌==◌, if◌then◌else◌, Bool, true, false, List, [], ◌∷◌, ◌++◌, length, Option, Some, None, ℤ, refl, ap, ◌∙◌, sym, subst}
 use Rattle.std.specs.Char.{is_ascii_digit}
 use Rattle.std.specs.List.{list_all, take_while}
 use Rattle.std.specs.Option.{option_map}
-use Rattle.std.proofs.Math.Nat.{min-eq_left, min-eq_right, div-eq_of_lt}
-use Rattle.std.proofs.lemmas.Bool.{and_from, cases_lt, cond_both, cond-false, le-ltb, ne_eqb}
+use Rattle.std.proofs.lemmas.Bool.{and_from, cond_both, cond-false, ne_eqb}
 use Rattle.std.proofs.lemmas.List.Folds.{list_all-append}
 use Rattle.std.proofs.lemmas.List.Sums.{take_while-cons}
-use Rattle.calc_num.specs.Decimals.{rounded, nearest, is_raw}
+use Rattle.calc_num.specs.Decimals.{rounded, is_raw}
 use Rattle.calc_num.specs.Scaling.{size_of, size_reading, near}
-use Rattle.calc_num.specs.Spelling.{Unsigned, front_digits, behind_digits, fraction_digits, behind_fraction, exponent, unsigned, numerator, denominator, with_sign, reading_of, reading}
-use Rattle.calc_num.specs.declared.parse.Reading.{Reading}
+use Rattle.calc_num.specs.Spelling.{Unsigned, front_digits, behind_digits, fraction_digits, behind_fraction, exponent, unsigned, numerator, denominator, reading_of, reading}
 use Rattle.calc_num.specs.declared.parse.Reading.TheVariants.{Number, TooLarge}
 use Rattle.calc_num.proofs.Scale.{power_some}
+use Rattle.calc_num.proofs.Signs.{nearest-sign, size-limited}
 use Rattle.calc_num.proofs.Sizes.{size_of-near}
 
 pub front-all : (text : List ℕ) → list_all is_ascii_digit (front_digits text) ≡ true
@@ -46,39 +45,12 @@ size_of-parts text whole fraction e is_whole is_fraction short_whole short_fract
     let sized = size_of-exponent front behind o e (parts-all text) (subst (λ ds. length ds < 2 ^ 64) is_whole short_whole) (subst (λ ds. length ds < 2 ^ 64) is_fraction short_fraction) is_near in
     rw (is_whole, is_fraction) (sized ∙ ap (option_map size_of) (sym (cond-false (length (front ++ behind) == 0) None (option_map (λ power. record { whole = front; fraction = behind; exponent = power }) o) not_bare)))
 
--- the sign may be put before or behind the rounding
-pub nearest-sign : (negative : Bool) (p q : ℕ) → 0 < q → nearest (with_sign negative p) q ≡ with_sign negative (rounded p q)
-nearest-sign false p q some = refl
-nearest-sign true zero q some =
-    let none : rounded 0 q ≡ 0 = div-eq_of_lt {n = 2 * 0 + q} {m = 2 * q} (omega arith) in
-    ap pos none ∙ ap (λ r. neg_ℤ (pos r)) (sym none)
-nearest-sign true (suc p) q some = refl
-
-pub is_raw-sign : (negative : Bool) (n : ℕ) → is_raw (with_sign negative n) ≡ ltb n (10 ^ 27)
-is_raw-sign false n = refl
-is_raw-sign true zero = refl
-is_raw-sign true (suc n) = refl
-
--- a size that may be at the limit as a reading
-abbrev in_range : Bool → ℕ → Reading
-in_range negative size = if is_raw (with_sign negative size) then Number (with_sign negative size) else TooLarge
-
-too_large : (negative : Bool) (size : ℕ) → 10 ^ 27 ≤ size → in_range negative size ≡ TooLarge
-too_large negative size large = cond-false _ _ _ (is_raw-sign negative size ∙ le-ltb size (10 ^ 27) large)
-
-limited : (negative : Bool) (size : ℕ) → in_range negative (min size (10 ^ 27)) ≡ in_range negative size
-limited negative size =
-    elim (cases_lt size (10 ^ 27)) [
-      | inl below ↦ ap (in_range negative) (min-eq_left {n = size} {m = 10 ^ 27} (omega arith))
-      | inr above ↦
-          too_large negative (min size (10 ^ 27)) (omega (arith, min-eq_right {n = 10 ^ 27} {m = size} above)) ∙ sym (too_large negative size above)
-    ]
-
+-- a rounded size as a reading
 pub reading_of-size : (negative : Bool) (o : Option Unsigned) → size_reading negative (option_map size_of o) ≡ reading_of negative o
 reading_of-size negative None = refl
 reading_of-size negative (Some n) =
     let signed = nearest-sign negative (numerator n * 10 ^ 9) (denominator n) (power_some _) in
-    limited negative (rounded (numerator n * 10 ^ 9) (denominator n)) ∙ ap (λ raw. if is_raw raw then Number raw else TooLarge) (sym signed)
+    size-limited Number TooLarge negative (rounded (numerator n * 10 ^ 9) (denominator n)) ∙ ap (λ raw. if is_raw raw then Number raw else TooLarge) (sym signed)
 
 -- a text that begins with no sign is read as an unsigned number
 pub reading-unsigned : (byte : ℕ) (rest : List ℕ) → (byte ≡ 45 → ⊥) → (byte ≡ 43 → ⊥) → reading (byte ∷ rest) ≡ reading_of false (unsigned (byte ∷ rest))

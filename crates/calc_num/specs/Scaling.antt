@@ -1,10 +1,10 @@
 -- What the sizes of numbers come to while their digits are read. A size counts billionths, and 10^27 stands for each
 -- size that is as large or larger.
 use Rattle.std.specs.Prelude.{ℕ, ◌+◌, ◌*◌, ◌^◌, min, suc, Bool, if◌then◌else◌, List, length, Option, Some, None, ℤ, pos, negsuc, neg_ℤ}
-use Rattle.calc_num.specs.Decimals.{rounded, is_raw}
+use Rattle.calc_num.specs.Decimals.{rounded, is_raw, with_sign}
 use Rattle.calc_num.specs.declared.parse.Reading.{Reading}
 use Rattle.calc_num.specs.declared.parse.Reading.TheVariants.{Number, TooLarge, NotNumber}
-use Rattle.calc_num.specs.Spelling.{Unsigned, with_sign, digits_number, numerator, denominator}
+use Rattle.calc_num.specs.Spelling.{Unsigned, digits_number, numerator, denominator}
 
 -- exponents of 10^20 and more aren't told apart
 abbrev pub near : ℤ → ℤ

@@ -2,11 +2,11 @@
 -- An unsigned number is digits, a point with digits on either or both sides of it, or the same with an exponent behind:
 -- `e` or `E`, a sign if need be, and digits. A signed number may have a sign before it. Its value is exact: the digits
 -- as one whole number, shifted by the exponent and by the digits behind the point. A reading is the nearest raw number.
-use Rattle.std.specs.Prelude.{ℕ, ◌+◌, ◌-◌, ◌*◌, ◌^◌, ◌==◌, suc, Bool, false, ◌||◌, List, [], ◌∷◌, ◌++◌, length, drop, Option, Some, None, if◌then◌else◌, ℤ, pos, negsuc, neg_ℤ}
+use Rattle.std.specs.Prelude.{ℕ, ◌+◌, ◌-◌, ◌*◌, ◌^◌, ◌==◌, suc, Bool, false, ◌||◌, List, [], ◌∷◌, ◌++◌, length, drop, Option, Some, None, if◌then◌else◌, ℤ, pos, negsuc}
 use Rattle.std.specs.Char.{is_ascii_digit}
 use Rattle.std.specs.List.{fold, prefix_len, take_while}
 use Rattle.std.specs.Option.{option_map}
-use Rattle.calc_num.specs.Decimals.{nearest, is_raw}
+use Rattle.calc_num.specs.Decimals.{nearest, is_raw, with_sign}
 use Rattle.calc_num.specs.declared.parse.Reading.{Reading}
 use Rattle.calc_num.specs.declared.parse.Reading.TheVariants.{Number, TooLarge, NotNumber}
 
@@ -49,9 +49,6 @@ is_negative (byte ∷ rest) = byte == 45
 abbrev pub behind_sign : List ℕ → List ℕ
 behind_sign [] = []
 behind_sign (byte ∷ rest) = if byte == 45 || byte == 43 then rest else byte ∷ rest
-
-abbrev pub with_sign : Bool → ℕ → ℤ
-with_sign negative n = if negative then neg_ℤ (pos n) else pos n
 
 -- digits alone with an optional sign
 abbrev pub signed_whole : List ℕ → Option ℤ

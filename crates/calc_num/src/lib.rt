@@ -4,10 +4,14 @@
 //! a number has up to 18 digits before the point and nine behind it. Nothing is floating point.
 #![tactic(auto)]
 
+mod multiply;
 mod num;
 mod parse;
+mod power;
 mod print;
+mod rounding;
 
 pub use num::{Num, NumFault};
 pub use parse::Reading;
 pub use print::NumText;
+pub use rounding::Way;

@@ -1,5 +1,5 @@
-ghost use Rattle.std.specs.Prelude.{◌≡◌, ◌+ℤ◌, ◌↔◌, IsSome, IfSome};
-ghost use Rattle.calc_num.specs.Decimals.{IsRaw, checked};
+ghost use Rattle.std.specs.Prelude.{◌≡◌, ◌^◌, ◌<◌, pos, neg_ℤ, ◌+ℤ◌, ◌-ℤ◌, ◌↔◌, IsSome, IfSome, int_lt, unsigned_abs};
+ghost use Rattle.calc_num.specs.Decimals.{IsRaw, checked, with_sign};
 
 use std::marker::Model;
 
@@ -70,10 +70,61 @@ impl Num {
         self.raw
     }
 
+    /// The size of the raw number.
+    pub(crate) fn size(self) -> u128
+        ensures value { result ≡ unsigned_abs self }
+        ensures small { result < 10 ^ 27 }
+    {
+        self.raw.unsigned_abs()
+    }
+
+    /// Whether the number is below zero.
+    pub(crate) fn is_negative(self) -> bool
+        ensures { result ≡ int_lt self (pos 0) }
+    {
+        self.raw < 0
+    }
+
+    /// The number with this raw size, or its negative.
+    pub(crate) fn from_size(negative: bool, size: u128) -> Num
+        requires { size < 10 ^ 27 }
+        ensures { result ≡ with_sign negative size }
+    {
+        let raw = size as i128;
+        Num {
+            raw: if negative { -raw } else { raw },
+        }
+    }
+
+    /// The number with this raw size, or its negative, if that is in range.
+    pub(crate) fn from_any_size(negative: bool, size: u128) -> Result<Num, NumFault>
+        ensures { result ≡ checked (with_sign negative size) }
+    {
+        if size < LIMIT {
+            Ok(Num::from_size(negative, size))
+        } else {
+            Err(NumFault::Over)
+        }
+    }
+
     /// The sum, which is exact.
     pub fn add(self, other: Num) -> Result<Num, NumFault>
         ensures { result ≡ checked (self +ℤ other) }
     {
         Num::from_raw(self.raw + other.raw).ok_or(NumFault::Over)
+    }
+
+    /// The difference, which is exact.
+    pub fn sub(self, other: Num) -> Result<Num, NumFault>
+        ensures { result ≡ checked (self -ℤ other) }
+    {
+        Num::from_raw(self.raw - other.raw).ok_or(NumFault::Over)
+    }
+
+    /// The negative.
+    pub fn neg(self) -> Num
+        ensures { result ≡ neg_ℤ self }
+    {
+        Num { raw: -self.raw }
     }
 }

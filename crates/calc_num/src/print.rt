@@ -2,6 +2,8 @@
 ghost use Rattle.std.specs.Prelude.{◌≡◌, ◌+◌, ◌-◌, ◌==◌, ◌^◌, ◌<◌, ◌≤◌, length, drop, slice_range};
 ghost use Rattle.std.specs.List.{suffix_len};
 ghost use Rattle.std.specs.Fmt.{decimal};
+ghost use Rattle.calc_num.specs.declared.parse.Reading.TheVariants.{Number};
+ghost use Rattle.calc_num.specs.Spelling.{reading};
 ghost use Rattle.calc_num.specs.Numbers.{printed, printed_size, printed_fraction};
 
 use crate::num::{Num, ONE};
@@ -86,6 +88,7 @@ impl Num {
     pub fn write(self) -> NumText
         ensures value { result ≡ printed self }
         ensures short { length result ≤ 29 }
+        ensures read_back { reading result ≡ Number self }
     {
         let raw = self.raw();
         let mut bytes = [b'0'; LEN];

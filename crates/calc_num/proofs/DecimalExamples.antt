@@ -1,0 +1,116 @@
+-- Worked examples of the operations on raw numbers, each computed. A raw number counts billionths.
+use Rattle.std.proofs.Common.{◌≡◌, ◌-◌, ◌^◌, ℤ, pos, neg_ℤ, ◌+ℤ◌, ◌*ℤ◌, Ok, Err, refl}
+use Rattle.calc_num.specs.declared.num.NumFault.TheVariants.{Over, DivZero, NotNum}
+use Rattle.calc_num.specs.declared.rounding.Way.TheVariants.{Nearest, Away, Toward, Floor}
+use Rattle.calc_num.specs.Decimals.{checked, product, quotient, percent, repeated_product, power, rounding, remainder, whole_quotient, least, square_root}
+
+-- a whole number's raw number
+abbrev whole : ℤ → ℤ
+whole n = n *ℤ pos (10 ^ 9)
+
+one_third_is_cut_below_half : quotient (whole (pos 1)) (whole (pos 3)) ≡ Ok (pos 333333333)
+one_third_is_cut_below_half = refl
+
+two_thirds_are_rounded_up : quotient (whole (pos 2)) (whole (pos 3)) ≡ Ok (pos 666666667)
+two_thirds_are_rounded_up = refl
+
+a_negative_divisor_makes_the_quotient_negative : quotient (whole (pos 2)) (whole (neg_ℤ (pos 3))) ≡ Ok (neg_ℤ (pos 666666667))
+a_negative_divisor_makes_the_quotient_negative = refl
+
+three_times_a_third_is_below_one : product (pos 333333333) (whole (pos 3)) ≡ Ok (pos 999999999)
+three_times_a_third_is_below_one = refl
+
+half_a_billionth_goes_away_from_zero : product (neg_ℤ (pos 1)) (pos 500000000) ≡ Ok (neg_ℤ (pos 1))
+half_a_billionth_goes_away_from_zero = refl
+
+nothing_is_divided_by_zero : quotient (whole (pos 1)) (pos 0) ≡ Err DivZero
+nothing_is_divided_by_zero = refl
+
+the_greatest_number_divided_by_a_billionth_is_out_of_range : quotient (pos (10 ^ 27 - 1)) (pos 1) ≡ Err Over
+the_greatest_number_divided_by_a_billionth_is_out_of_range = refl
+
+the_greatest_and_the_least_number_make_zero : checked (pos (10 ^ 27 - 1) +ℤ neg_ℤ (pos (10 ^ 27 - 1))) ≡ Ok (pos 0)
+the_greatest_and_the_least_number_make_zero = refl
+
+a_billionth_more_than_the_greatest_is_out_of_range : checked (pos (10 ^ 27 - 1) +ℤ pos 1) ≡ Err Over
+a_billionth_more_than_the_greatest_is_out_of_range = refl
+
+fifty_billionths_are_one_hundredfold : percent (pos 50) ≡ pos 1
+fifty_billionths_are_one_hundredfold = refl
+
+two_to_the_tenth : power (whole (pos 2)) (whole (pos 10)) ≡ Ok (whole (pos 1024))
+unfolding repeated_product
+two_to_the_tenth = refl
+
+two_to_minus_one_is_a_half : power (whole (pos 2)) (whole (neg_ℤ (pos 1))) ≡ Ok (pos 500000000)
+unfolding repeated_product
+two_to_minus_one_is_a_half = refl
+
+zero_to_the_zeroth_is_one : power (pos 0) (pos 0) ≡ Ok (whole (pos 1))
+unfolding repeated_product
+zero_to_the_zeroth_is_one = refl
+
+zero_has_no_negative_power : power (pos 0) (whole (neg_ℤ (pos 2))) ≡ Err DivZero
+unfolding repeated_product
+zero_has_no_negative_power = refl
+
+each_step_of_a_power_is_rounded : power (pos 333333333) (whole (pos 3)) ≡ Ok (pos 37037037)
+unfolding repeated_product
+each_step_of_a_power_is_rounded = refl
+
+a_power_has_a_whole_exponent : power (whole (pos 4)) (pos 500000000) ≡ Err NotNum
+unfolding repeated_product
+a_power_has_a_whole_exponent = refl
+
+an_exponent_is_at_most_1024 : power (whole (pos 1)) (whole (pos 1025)) ≡ Err NotNum
+unfolding repeated_product
+an_exponent_is_at_most_1024 = refl
+
+ten_to_the_eighteenth_is_out_of_range : power (whole (pos 10)) (whole (neg_ℤ (pos 18))) ≡ Err Over
+unfolding repeated_product
+ten_to_the_eighteenth_is_out_of_range = refl
+
+minus_two_and_a_half_is_rounded_away_from_zero : rounding Nearest (pos 0) (neg_ℤ (pos 2500000000)) ≡ Ok (whole (neg_ℤ (pos 3)))
+minus_two_and_a_half_is_rounded_away_from_zero = refl
+
+minus_two_and_a_half_toward_zero : rounding Toward (pos 0) (neg_ℤ (pos 2500000000)) ≡ Ok (whole (neg_ℤ (pos 2)))
+minus_two_and_a_half_toward_zero = refl
+
+minus_two_and_a_tenth_away_from_zero : rounding Away (pos 0) (neg_ℤ (pos 2100000000)) ≡ Ok (whole (neg_ℤ (pos 3)))
+minus_two_and_a_tenth_away_from_zero = refl
+
+minus_two_and_a_tenth_down : rounding Floor (pos 0) (neg_ℤ (pos 2100000000)) ≡ Ok (whole (neg_ℤ (pos 3)))
+minus_two_and_a_tenth_down = refl
+
+a_half_is_rounded_up : rounding Nearest (pos 0) (pos 500000000) ≡ Ok (whole (pos 1))
+a_half_is_rounded_up = refl
+
+negative_digits_round_before_the_point : rounding Nearest (neg_ℤ (pos 2)) (whole (pos 12345)) ≡ Ok (whole (pos 12300))
+negative_digits_round_before_the_point = refl
+
+nine_digits_change_nothing : rounding Away (pos 9) (pos 1) ≡ Ok (pos 1)
+nine_digits_change_nothing = refl
+
+away_to_a_unit_beyond_every_number_is_out_of_range : rounding Away (neg_ℤ (pos 18)) (pos 1) ≡ Err Over
+away_to_a_unit_beyond_every_number_is_out_of_range = refl
+
+minus_seven_and_a_half_leaves_a_half : remainder (neg_ℤ (pos 7500000000)) (whole (pos 2)) ≡ Ok (pos 500000000)
+minus_seven_and_a_half_leaves_a_half = refl
+
+a_remainder_has_the_divisors_sign : remainder (pos 7500000000) (whole (neg_ℤ (pos 2))) ≡ Ok (neg_ℤ (pos 500000000))
+a_remainder_has_the_divisors_sign = refl
+
+a_whole_quotient_is_cut_toward_zero : whole_quotient (neg_ℤ (pos 7500000000)) (whole (pos 2)) ≡ Ok (whole (neg_ℤ (pos 3)))
+a_whole_quotient_is_cut_toward_zero = refl
+
+the_root_of_two_is_rounded_up : square_root (whole (pos 2)) ≡ Ok (pos 1414213562)
+unfolding least
+the_root_of_two_is_rounded_up = refl
+
+the_root_of_a_billionth : square_root (pos 1) ≡ Ok (pos 31623)
+unfolding least
+the_root_of_a_billionth = refl
+
+a_negative_number_has_no_root : square_root (neg_ℤ (pos 1)) ≡ Err NotNum
+unfolding least
+a_negative_number_has_no_root = refl

@@ -1,0 +1,56 @@
+//! Powers with a whole exponent, and the square root.
+ghost use Rattle.std.specs.Prelude.{◌≡◌, IfOk};
+ghost use Rattle.calc_num.specs.Decimals.{power, repeated_product, square_root, IsLeastRoot};
+
+use crate::num::{Num, NumFault, ONE};
+
+/// The greatest size of an exponent.
+const MOST: u128 = 1024;
+
+/// One, multiplied by the base so many times. It stops where a further step changes nothing.
+fn repeated(base: Num, count: u32) -> Result<Num, NumFault>
+    ensures { result ≡ repeated_product base count }
+{
+    let mut product = Num::from_size(false, ONE);
+    for _step in 0..count {
+        let next = product.mul(base)?;
+        if next == product {
+            return Ok(product);
+        }
+        product = next;
+    }
+    Ok(product)
+}
+
+impl Num {
+    /// The power: one, multiplied by the number as often as the exponent says, and for a negative
+    /// exponent one divided by that. An exponent that isn't a whole number from -1,024 to 1,024 is
+    /// `NotNum`. There are at most 1,024 products.
+    pub fn pow(self, exponent: Num) -> Result<Num, NumFault>
+        ensures { result ≡ power self exponent }
+    {
+        let size = exponent.size();
+        if size % ONE != 0 || size / ONE > MOST {
+            return Err(NumFault::NotNum);
+        }
+        let product = repeated(self, (size / ONE) as u32)?;
+        if exponent.is_negative() {
+            Num::from_size(false, ONE).div(product)
+        } else {
+            Ok(product)
+        }
+    }
+
+    /// The square root to nine places, which is never halfway between two. A negative number has none
+    /// and is `NotNum`.
+    pub fn sqrt(self) -> Result<Num, NumFault>
+        ensures value { result ≡ square_root self }
+        ensures least { IfOk result (IsLeastRoot self) }
+    {
+        if self.is_negative() {
+            return Err(NumFault::NotNum);
+        }
+        let doubled = (4 * self.size() * ONE).isqrt();
+        Ok(Num::from_size(false, (doubled + 1) / 2))
+    }
+}

@@ -1,0 +1,97 @@
+//! Rounding to a number of digits, and what is left of a division.
+ghost use Rattle.std.specs.Prelude.{◌≡◌, ◌+◌, ◌-◌, ◌*◌, ◌%◌, ◌^◌, ◌<◌, ◌≤◌, min, pos, ◌-ℤ◌, unsigned_abs, if◌then◌else◌};
+ghost use Rattle.calc_num.specs.Decimals.{with_sign, pick, rounding, remainder, whole_quotient};
+
+use crate::num::{Num, NumFault, ONE};
+
+/// How a number between two multiples is rounded.
+#[derive(Clone, Copy, Debug, PartialEq, Eq)]
+pub enum Way {
+    /// To the nearest multiple, halves away from zero.
+    Nearest,
+    /// Away from zero.
+    Away,
+    /// Toward zero.
+    Toward,
+    /// To the multiple below.
+    Floor,
+}
+
+/// The unit of a number of digits: ten to the nine less the digits, or 10^28 where that is greater,
+/// which is beyond every number too.
+fn unit_of(digits: i64) -> u128
+    ensures value { result ≡ 10 ^ min (unsigned_abs (digits -ℤ pos 9)) 28 }
+    ensures bounds { (0 < result) × (result ≤ 10 ^ 28) }
+{
+    10u128.pow(digits.abs_diff(9).min(28) as u32)
+}
+
+/// The size of the whole number that a way of rounding picks for a size with a sign, in units.
+fn picked(way: Way, negative: bool, size: u128, unit: u128) -> u128
+    requires size { size < 10 ^ 27 }
+    requires unit { (0 < unit) × (unit ≤ 10 ^ 28) }
+    ensures value { with_sign negative result ≡ pick way (with_sign negative size) unit }
+    ensures near { result * unit ≤ size + unit }
+{
+    match way {
+        Way::Nearest => (2 * size + unit) / (2 * unit),
+        Way::Away => (size + (unit - 1)) / unit,
+        Way::Toward => size / unit,
+        Way::Floor if negative => (size + (unit - 1)) / unit,
+        Way::Floor => size / unit,
+    }
+}
+
+/// What is left of a size after a division rounded down, where the signs are opposite or not.
+fn floor_rest(size: u128, divisor: u128, opposite: bool) -> u128
+    requires { 0 < divisor }
+    ensures value { result ≡ (if opposite then (divisor - size % divisor) % divisor else size % divisor) }
+    ensures small { result < divisor }
+{
+    let rest = size % divisor;
+    if opposite && rest != 0 {
+        divisor - rest
+    } else {
+        rest
+    }
+}
+
+impl Num {
+    /// The multiple of `10^(-digits)` that the way picks; the number itself from nine digits on.
+    pub fn round_to(self, digits: i64, way: Way) -> Result<Num, NumFault>
+        ensures { result ≡ rounding way digits self }
+    {
+        if digits >= 9 {
+            return Ok(self);
+        }
+        let unit = unit_of(digits);
+        let count = picked(way, self.is_negative(), self.size(), unit);
+        Num::from_any_size(self.is_negative(), count * unit)
+    }
+
+    /// What is left of the number when the divisor is taken off as often as the quotient, rounded
+    /// down, says: it has the divisor's sign and is smaller. No fault but a divisor of zero.
+    pub fn floor_mod(self, other: Num) -> Result<Num, NumFault>
+        ensures { result ≡ remainder self other }
+    {
+        let divisor = other.size();
+        if divisor == 0 {
+            return Err(NumFault::DivZero);
+        }
+        let opposite = self.is_negative() != other.is_negative();
+        let size = floor_rest(self.size(), divisor, opposite);
+        Ok(Num::from_size(other.is_negative(), size))
+    }
+
+    /// The whole part of the quotient, cut toward zero.
+    pub fn quotient(self, other: Num) -> Result<Num, NumFault>
+        ensures { result ≡ whole_quotient self other }
+    {
+        let divisor = other.size();
+        if divisor == 0 {
+            return Err(NumFault::DivZero);
+        }
+        let size = self.size() / divisor * ONE;
+        Num::from_any_size(self.is_negative() != other.is_negative(), size)
+    }
+}
