@@ -89,6 +89,23 @@ abbrev pub IsInArea : Rectangle → Option Place → Type 0
 IsInArea a None = Unit {0}
 IsInArea a (Some p) = covers a p ≡ true
 
+-- one row of a rectangle
+abbrev pub row_at : Rectangle → ℕ → Rectangle
+row_at a row = record a { first_row = row; last_row = row }
+
+-- the rows of a rectangle, downwards
+abbrev pub rows_of : Rectangle → List Rectangle
+rows_of a = map (row_at a) (from_to a.first_row a.last_row)
+
+-- the rows of a rectangle, if there is one
+abbrev pub rows_from : Option Rectangle → List Rectangle
+rows_from None = []
+rows_from (Some a) = rows_of a
+
+-- the rectangle without its first row, if it has another
+abbrev pub below_first : Rectangle → Option Rectangle
+below_first a = if nat_lt a.first_row a.last_row then Some (record a { first_row = a.first_row + 1 }) else None
+
 -- the rectangle of one cell
 abbrev pub single : Place → Rectangle
 single p = record { sheet = p.sheet; first_col = p.col; last_col = p.col; first_row = p.row; last_row = p.row }

@@ -16,7 +16,7 @@ pub use laws::{areas_list_their_cells, cells_read_back};
 pub use read::{Spelled, read_area, read_cell};
 pub use reference::{Marks, Ref, Span};
 use std::alloc::AllocError;
-pub use walk::AreaCells;
+pub use walk::{AreaCells, AreaRows};
 pub use write::{AddrText, write_cell};
 
 /// Want of memory.

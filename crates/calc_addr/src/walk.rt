@@ -1,6 +1,6 @@
-ghost use Rattle.calc_addr.specs.Cells.{IsInArea, corner, covers, place_after, places, places_from};
+ghost use Rattle.calc_addr.specs.Cells.{IsInArea, below_first, corner, covers, place_after, places, places_from, row_at, rows_from, rows_of};
 ghost use Rattle.std.specs.Iterator.{YieldsFirst, item_count};
-ghost use Rattle.std.specs.Prelude.{◌≡◌, true};
+ghost use Rattle.std.specs.Prelude.{◌≡◌, ◌≤◌, true};
 
 use crate::cell::{Area, Cell};
 use std::marker::Model;
@@ -23,7 +23,50 @@ impl Model for AreaCells {
     ghost invariant = { λ cells. IsInArea cells.area cells.next };
 }
 
+/// The rows of an area that are still to come, downwards. Contracts see them as their list.
+#[derive(Clone, Debug, Drop)]
+pub struct AreaRows {
+    rest: Option<Area>,
+}
+
+impl Model for AreaRows {
+    ghost use Rattle.calc_addr.specs.Cells.{Rectangle, rows_from};
+    ghost use Rattle.std.specs.Prelude.{List};
+
+    ghost Value = { List Rectangle };
+
+    ghost view = { λ rows. rows_from rows.rest };
+}
+
 impl Area {
+    /// Its rows, downwards, each as an area.
+    pub fn rows(self) -> AreaRows
+        ensures { result ≡ rows_of self }
+    {
+        AreaRows { rest: Some(self) }
+    }
+
+    /// The first row, and what is below it.
+    fn cut_row(self) -> (Area, Option<Area>)
+        ensures first { result.0 ≡ row_at self self.first_row }
+        ensures rest { result.1 ≡ below_first self }
+        ensures in_order { self.first_row ≤ self.last_row }
+    {
+        let first = Area {
+            last_row: self.first_row,
+            ..self
+        };
+        if self.first_row < self.last_row {
+            let rest = Area {
+                first_row: self.first_row + 1,
+                ..self
+            };
+            (first, Some(rest))
+        } else {
+            (first, None)
+        }
+    }
+
     /// Its cells in area order: column by column, downwards.
     pub fn cells(self) -> AreaCells
         ensures { result ≡ places self }
@@ -80,5 +123,19 @@ impl Iterator for AreaCells {
         let cell = self.next?;
         self.next = self.area.after(cell);
         Some(cell)
+    }
+}
+
+impl Iterator for AreaRows {
+    type Item = Area;
+
+    ghost next_gives = { YieldsFirst (λ rows. rows) };
+
+    ghost remaining = { item_count (λ rows. rows) };
+
+    fn next(&mut self) -> Option<Area> {
+        let (row, rest) = self.rest?.cut_row();
+        self.rest = rest;
+        Some(row)
     }
 }
