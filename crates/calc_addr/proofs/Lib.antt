@@ -1,8 +1,9 @@
 pub mod Columns
 pub mod Cuts
 pub mod Digits
-pub mod Parts
+pub mod Joined
 mod Examples
 pub mod Order
 pub mod Places
+pub mod ReferenceTrip
 pub mod RoundTrip
