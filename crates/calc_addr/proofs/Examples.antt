@@ -1,11 +1,15 @@
--- Worked examples of how cells are printed and spelled.
-use Rattle.std.proofs.Common.{◌≡◌, ℕ, codes, refl}
+-- Worked examples of how cells, columns, rows and references are printed and spelled.
+use Rattle.std.proofs.Common.{◌≡◌, ℕ, true, false, Some, None, codes, refl}
 use Rattle.std.specs.Fmt.{digits}
-use Rattle.calc_addr.specs.Cells.{Place}
+use Rattle.calc_addr.specs.Cells.{Place, single}
 use Rattle.calc_addr.specs.Letters.{column_letters}
-use Rattle.calc_addr.specs.Addresses.{address}
-use Rattle.calc_addr.specs.Spelling.{spelled_cell, spelled_area}
+use Rattle.calc_addr.specs.Addresses.{address, printed_rows}
+use Rattle.calc_addr.specs.Bracketed.{printed_reference, spelled_reference}
+use Rattle.calc_addr.specs.References.{Reference}
+use Rattle.calc_addr.specs.Spelling.{spelled_area, spelled_cell, spelled_col, spelled_row}
 use Rattle.calc_addr.specs.declared.read.Spelled.TheVariants.{Is, Outside, Not}
+use Rattle.calc_addr.specs.declared.reference.Marks.{Marks}
+use Rattle.calc_addr.specs.declared.reference.Span.TheVariants as span
 
 abbrev at : ℕ → ℕ → ℕ → Place
 at sheet col row = record { sheet = sheet; col = col; row = row }
@@ -98,3 +102,122 @@ no_second_sheet = refl
 
 no_third_corner : spelled_area (codes "A1:B2:C3") ≡ Not
 no_third_corner = refl
+
+a_column : spelled_col (codes "Sheet2.$b") ≡ Is (1, 2)
+a_column = refl
+
+past_the_last_column_alone : spelled_col (codes "AMK") ≡ Outside
+past_the_last_column_alone = refl
+
+a_cell_is_no_column : spelled_col (codes "A1") ≡ Not
+a_cell_is_no_column = refl
+
+a_row : spelled_row (codes "Sheet2.1") ≡ Is (1, 1)
+a_row = refl
+
+past_the_last_row_alone : spelled_row (codes "$1048577") ≡ Outside
+past_the_last_row_alone = refl
+
+row_0_alone : spelled_row (codes "0") ≡ Not
+row_0_alone = refl
+
+-- references
+abbrev no_marks : Marks
+no_marks = record { sheet = false; first_col = false; first_row = false; last_col = false; last_row = false }
+
+abbrev b2 : Reference
+b2 = record { area = single (at 0 2 2); span = span.One; marks = no_marks }
+
+one_cell_reference : spelled_reference (codes ".B2") ≡ Some b2
+one_cell_reference = refl
+
+two_equal_cells : spelled_reference (codes ".b2:.B2") ≡ Some (record b2 { span = span.Cells })
+two_equal_cells = refl
+
+marks_go_with_their_ends : spelled_reference (codes "$'Sheet3'.$b$2:.A1") ≡ Some (record {
+  area = record { sheet = 2; first_col = 1; last_col = 2; first_row = 1; last_row = 2 };
+  span = span.Cells;
+  marks = record { sheet = true; first_col = false; first_row = false; last_col = true; last_row = true };
+})
+marks_go_with_their_ends = refl
+
+equal_ends_stay : spelled_reference (codes ".$B1:.B2") ≡ Some (record {
+  area = record { sheet = 0; first_col = 2; last_col = 2; first_row = 1; last_row = 2 };
+  span = span.Cells;
+  marks = record no_marks { first_col = true };
+})
+equal_ends_stay = refl
+
+whole_columns : spelled_reference (codes "Sheet1.$C:.A") ≡ Some (record {
+  area = record { sheet = 0; first_col = 1; last_col = 3; first_row = 1; last_row = 1048576 };
+  span = span.Columns;
+  marks = record no_marks { sheet = true; last_col = true };
+})
+whole_columns = refl
+
+whole_rows : spelled_reference (codes ".3:.$1048576") ≡ Some (record {
+  area = record { sheet = 0; first_col = 1; last_col = 1024; first_row = 3; last_row = 1048576 };
+  span = span.Rows;
+  marks = record no_marks { last_row = true };
+})
+whole_rows = refl
+
+no_reference_past_the_last_column : spelled_reference (codes ".AMK1") ≡ None
+no_reference_past_the_last_column = refl
+
+no_reference_past_the_last_row : spelled_reference (codes ".A1:.A1048577") ≡ None
+no_reference_past_the_last_row = refl
+
+no_reference_to_sheet_17 : spelled_reference (codes "$Sheet17.A1") ≡ None
+no_reference_to_sheet_17 = refl
+
+no_reference_without_point : spelled_reference (codes "A1") ≡ None
+no_reference_without_point = refl
+
+no_second_end_without_point : spelled_reference (codes ".A1:B2") ≡ None
+no_second_end_without_point = refl
+
+no_column_with_a_cell : spelled_reference (codes ".A:.B2") ≡ None
+no_column_with_a_cell = refl
+
+no_column_alone : spelled_reference (codes ".A") ≡ None
+no_column_alone = refl
+
+an_open_quote : spelled_reference (codes "'Sheet1.A1") ≡ None
+an_open_quote = refl
+
+printed_marks : printed_reference (record {
+  area = record { sheet = 2; first_col = 1; last_col = 2; first_row = 1; last_row = 2 };
+  span = span.Cells;
+  marks = record { sheet = true; first_col = false; first_row = false; last_col = true; last_row = true };
+}) ≡ codes "$Sheet3.A1:.$B$2"
+unfolding column_letters digits
+printed_marks = refl
+
+printed_cell : printed_reference b2 ≡ codes ".B2"
+unfolding column_letters digits
+printed_cell = refl
+
+printed_columns : printed_reference (record {
+  area = record { sheet = 0; first_col = 1; last_col = 1024; first_row = 1; last_row = 1048576 };
+  span = span.Columns;
+  marks = record no_marks { last_col = true };
+}) ≡ codes ".A:.$AMJ"
+unfolding column_letters digits
+printed_columns = refl
+
+printed_whole_rows : printed_reference (record {
+  area = record { sheet = 0; first_col = 1; last_col = 1024; first_row = 1; last_row = 1048576 };
+  span = span.Rows;
+  marks = record no_marks { first_row = true };
+}) ≡ codes ".$1:.1048576"
+unfolding column_letters digits
+printed_whole_rows = refl
+
+printed_run : printed_rows (record { sheet = 1; col = 2; first = 1; last = 6 }) ≡ codes "Sheet2.B1:B6"
+unfolding column_letters digits
+printed_run = refl
+
+printed_single_row : printed_rows (record { sheet = 0; col = 2; first = 3; last = 3 }) ≡ codes "B3:B3"
+unfolding column_letters digits
+printed_single_row = refl

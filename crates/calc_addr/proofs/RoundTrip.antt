@@ -4,23 +4,24 @@ use Rattle.std.specs.Prelude.{nat_le, ◌==◌}
 use Rattle.std.specs.List.{list_all, list_any, prefix_len, before_first, after_first}
 use Rattle.std.specs.Char.{is_ascii_alphabetic, is_ascii_digit}
 use Rattle.std.specs.Str.Parse.{digits_value}
-use Rattle.std.proofs.lemmas.Bool.{and_parts, and_from, or_from, or_parts, or_right, cond-true, cond-false, cond_both, ne_eqb, eqb-true, eqb-false, not_from_false, le-leb}
+use Rattle.std.proofs.lemmas.Bool.{and_parts, and_from, or_from, or_parts, or_left, or_right, not_from_true, cond-true, cond-false, cond_both, ne_eqb, eqb-true, eqb-false, not_from_false, le-leb}
 use Rattle.std.proofs.lemmas.Bool.Decides.{nat_tests}
 use Rattle.std.proofs.lemmas.Fmt.{decimal_is_IsNumeral, digits_decimal, first_decimal, decimal_nonempty}
 use Rattle.std.proofs.lemmas.List.{append_assoc, take_at, drop_at, drop-drop, length-append}
 use Rattle.std.proofs.lemmas.List.Folds.{list_all-append, list_any-append}
 use Rattle.std.proofs.lemmas.List.Sums.{fold_push}
 use Rattle.std.proofs.lemmas.Str.Parse.{IsNumeralModel, numerals_by_value}
+use Rattle.calc_addr.specs.Bracketed.{with_dollar}
 use Rattle.calc_addr.specs.Cells.{Place, IsPlace}
 use Rattle.calc_addr.specs.Letters.{last_letters, column_letters, letter_value, column_number}
 use Rattle.calc_addr.specs.Addresses.{address, sheet_word}
-use Rattle.calc_addr.specs.Spelling.{are_digits, are_digits_or_zero, are_letters, both, column_of, from_zero, is_point, row_of, sheet_of, sheet_part, after_sheet, spelled_address, spelled_cell, undollared, up_to, place_on}
+use Rattle.calc_addr.specs.Spelling.{are_digits, are_digits_or_zero, are_letters, both, column_len, column_of, column_part, row_part, from_zero, is_point, row_of, sheet_of, sheet_part, after_sheet, spelled_address, spelled_cell, undollared, up_to, place_on}
 use Rattle.calc_addr.specs.declared.read.Spelled.{Spelled}
 use Rattle.calc_addr.specs.declared.read.Spelled.TheVariants.{Is}
 use Rattle.calc_addr.proofs.Columns.{last_column}
 
 -- the digits of a number
-digits_test : IsNumeralModel (λ ds. list_all is_ascii_digit ds ≡ true) (digits_value 10)
+pub digits_test : IsNumeralModel (λ ds. list_all is_ascii_digit ds ≡ true) (digits_value 10)
 digits_test = numerals_by_value _ (search rules)
 
 are_digits-from : (ds : List ℕ) → 0 < length ds → 48 < get_or ds 0 0 → list_all is_ascii_digit ds ≡ true → are_digits ds ≡ true
@@ -77,67 +78,89 @@ unfolding column_letters
 column_number-column_letters n high = letters_number 3 n (omega arith)
 
 -- letters, and digits after them
-letter_no_dollar : (c : ℕ) → is_ascii_alphabetic c ≡ true → c == 36 ≡ false
+pub letter_no_dollar : (c : ℕ) → is_ascii_alphabetic c ≡ true → c == 36 ≡ false
 letter_no_dollar c h = grind (arith, nat_tests)
 
-digit_no_dollar : (c : ℕ) → is_ascii_digit c ≡ true → c == 36 ≡ false
+pub digit_no_dollar : (c : ℕ) → is_ascii_digit c ≡ true → c == 36 ≡ false
 digit_no_dollar c h = grind (arith, nat_tests)
 
-digit_no_letter : (c : ℕ) → is_ascii_digit c ≡ true → is_ascii_alphabetic c ≡ false
+pub digit_no_letter : (c : ℕ) → is_ascii_digit c ≡ true → is_ascii_alphabetic c ≡ false
 digit_no_letter c h = grind (arith, nat_tests)
 
 letter_no_point : (c : ℕ) → is_ascii_alphabetic c ≡ true → is_point c ≡ false
 letter_no_point c h = grind (arith, nat_tests)
 
-digit_no_point : (c : ℕ) → is_ascii_digit c ≡ true → is_point c ≡ false
+pub digit_no_point : (c : ℕ) → is_ascii_digit c ≡ true → is_point c ≡ false
 digit_no_point c h = grind (arith, nat_tests)
 
-undollared-letters : (ls rest : List ℕ) → are_letters ls ≡ true → undollared (ls ++ rest) ≡ ls ++ rest
-undollared-letters [] rest h = cc
-undollared-letters (c ∷ cs) rest h = cond-false (c == 36) _ _ (letter_no_dollar c (and_parts (is_ascii_alphabetic c) _ h).0)
+pub undollared-letters : (ls : List ℕ) → are_letters ls ≡ true → undollared ls ≡ ls
+undollared-letters [] h = cc
+undollared-letters (c ∷ cs) h = cond-false (c == 36) _ _ (letter_no_dollar c (and_parts (is_ascii_alphabetic c) _ h).0)
 
-undollared-digits : (ds : List ℕ) → are_digits ds ≡ true → undollared ds ≡ ds
+pub undollared-digits : (ds : List ℕ) → are_digits ds ≡ true → undollared ds ≡ ds
 undollared-digits [] h = cc
 undollared-digits (c ∷ cs) h =
     cond-false (c == 36) _ _ (digit_no_dollar c (and_parts (is_ascii_digit c) _ (and_parts (not (c == 48)) _ h).1).0)
 
-list_all-are_letters : (ls : List ℕ) → are_letters ls ≡ true → list_all is_ascii_alphabetic ls ≡ true
+pub list_all-are_letters : (ls : List ℕ) → are_letters ls ≡ true → list_all is_ascii_alphabetic ls ≡ true
 list_all-are_letters [] h = cc
 list_all-are_letters (c ∷ cs) h = h
 
-list_all-are_digits : (ds : List ℕ) → are_digits ds ≡ true → list_all is_ascii_digit ds ≡ true
+pub list_all-are_digits : (ds : List ℕ) → are_digits ds ≡ true → list_all is_ascii_digit ds ≡ true
 list_all-are_digits [] h = cc
 list_all-are_digits (c ∷ cs) h = (and_parts (not (c == 48)) _ h).1
 
-no_letter_first : (ds : List ℕ) → are_digits ds ≡ true → prefix_len is_ascii_alphabetic ds ≡ 0
+pub no_letter_first : (ds : List ℕ) → are_digits ds ≡ true → prefix_len is_ascii_alphabetic ds ≡ 0
 no_letter_first [] h = cc
 no_letter_first (c ∷ cs) h =
     cond-false (is_ascii_alphabetic c) _ _ (digit_no_letter c (and_parts (is_ascii_digit c) _ (list_all-are_digits (c ∷ cs) h)).0)
 
-prefix_len-stops : (p : ℕ → Bool) (xs ys : List ℕ) → list_all p xs ≡ true → prefix_len p ys ≡ 0 → prefix_len p (xs ++ ys) ≡ length xs
+pub prefix_len-stops : (p : ℕ → Bool) (xs ys : List ℕ) → list_all p xs ≡ true → prefix_len p ys ≡ 0 → prefix_len p (xs ++ ys) ≡ length xs
 prefix_len-stops p [] ys h k = k
 prefix_len-stops p (x ∷ xs) ys h k =
     let parts = and_parts (p x) (list_all p xs) h in
     cond-true (p x) _ _ parts.0 ∙ (omega (arith, prefix_len-stops p xs ys parts.1 k))
 
+pub undollared-with_dollar : (marked : Bool) (text : List ℕ) → undollared text ≡ text → undollared (with_dollar marked text) ≡ text
+undollared-with_dollar true text h = refl
+undollared-with_dollar false text h = h
+
+column_len-letters : (ls rest : List ℕ) → are_letters ls ≡ true → column_len (ls ++ rest) ≡ prefix_len is_ascii_alphabetic (ls ++ rest)
+column_len-letters [] rest h = cc
+column_len-letters (c ∷ cs) rest h = cond-false (c == 36) _ _ (letter_no_dollar c (and_parts (is_ascii_alphabetic c) _ h).0)
+
+column_len-with_dollar : (marked : Bool) (ls rest : List ℕ) → are_letters ls ≡ true → prefix_len is_ascii_alphabetic rest ≡ 0 → column_len (with_dollar marked ls ++ rest) ≡ length (with_dollar marked ls)
+column_len-with_dollar true ls rest letters stop =
+    omega (arith, prefix_len-stops is_ascii_alphabetic ls rest (list_all-are_letters ls letters) stop)
+column_len-with_dollar false ls rest letters stop =
+    column_len-letters ls rest letters ∙ prefix_len-stops is_ascii_alphabetic ls rest (list_all-are_letters ls letters) stop
+
+-- letters end where the row begins
+pub column_part-append : (marked : Bool) (ls rest : List ℕ) → are_letters ls ≡ true → prefix_len is_ascii_alphabetic rest ≡ 0 → column_part (with_dollar marked ls ++ rest) ≡ with_dollar marked ls
+column_part-append marked ls rest letters stop =
+    ap (λ n. take n (with_dollar marked ls ++ rest)) (column_len-with_dollar marked ls rest letters stop)
+    ∙ take_at (with_dollar marked ls) rest (length (with_dollar marked ls)) refl
+
+pub row_part-append : (marked : Bool) (ls rest : List ℕ) → are_letters ls ≡ true → prefix_len is_ascii_alphabetic rest ≡ 0 → row_part (with_dollar marked ls ++ rest) ≡ rest
+row_part-append marked ls rest letters stop =
+    ap (λ n. drop n (with_dollar marked ls ++ rest)) (column_len-with_dollar marked ls rest letters stop)
+    ∙ drop_at (with_dollar marked ls) rest (length (with_dollar marked ls)) refl
+
 abbrev cell_of : List ℕ → List ℕ → Spelled Place
 cell_of ls ds = both (λ col row. record { sheet = 0; col = col; row = row }) (column_of ls) (row_of ds)
 
-abbrev cut_at : List ℕ → ℕ → Spelled Place
-cut_at word n = cell_of (take n word) (undollared (drop n word))
-
 pub spelled_address-append : (ls ds : List ℕ) → are_letters ls ≡ true → are_digits ds ≡ true → spelled_address (ls ++ ds) ≡ cell_of ls ds
 spelled_address-append ls ds letters digits =
-    let stops = prefix_len-stops is_ascii_alphabetic ls ds (list_all-are_letters ls letters) (no_letter_first ds digits) in
-    ap (λ word. cut_at word (prefix_len is_ascii_alphabetic word)) (undollared-letters ls ds letters)
-    ∙ ap (cut_at (ls ++ ds)) stops
-    ∙ ap (λ x. cell_of x (undollared (drop (length ls) (ls ++ ds)))) (take_at ls ds (length ls) refl)
-    ∙ ap (cell_of ls) (ap undollared (drop_at ls ds (length ls) refl) ∙ undollared-digits ds digits)
+    let stop = no_letter_first ds digits in
+    ap (λ x. cell_of (undollared x) (undollared (row_part (ls ++ ds)))) (column_part-append false ls ds letters stop)
+    ∙ ap (λ x. cell_of (undollared ls) (undollared x)) (row_part-append false ls ds letters stop)
+    ∙ ap (λ x. cell_of x (undollared ds)) (undollared-letters ls letters)
+    ∙ ap (cell_of ls) (undollared-digits ds digits)
 
 up_to-inside : (last n : ℕ) → 1 ≤ n → n ≤ last → up_to last n ≡ Is n
 up_to-inside last n low high = cond-true (nat_le 1 n && nat_le n last) _ _ (and_from _ _ (le-leb 1 n low) (le-leb n last high))
 
-column_of-column_letters : (n : ℕ) → 1 ≤ n → n ≤ 1024 → column_of (column_letters n) ≡ Is n
+pub column_of-column_letters : (n : ℕ) → 1 ≤ n → n ≤ 1024 → column_of (column_letters n) ≡ Is n
 column_of-column_letters n low high =
     cond-true (are_letters (column_letters n)) _ _ (are_letters-column_letters n low)
     ∙ ap (up_to 1024) (column_number-column_letters n high)
@@ -146,7 +169,7 @@ column_of-column_letters n low high =
 digits_value-decimal_digits : (n : ℕ) → n < 2 ^ 64 → digits_value 10 (decimal n) ≡ n
 digits_value-decimal_digits n high = (decimal_is_IsNumeral n high).1
 
-row_of-decimal : (n : ℕ) → 1 ≤ n → n ≤ 1048576 → row_of (decimal n) ≡ Is n
+pub row_of-decimal : (n : ℕ) → 1 ≤ n → n ≤ 1048576 → row_of (decimal n) ≡ Is n
 row_of-decimal n low high =
     cond-true (are_digits (decimal n)) _ _ (are_digits-decimal n low (omega arith))
     ∙ ap (up_to 1048576) (digits_value-decimal_digits n (omega arith))
@@ -160,7 +183,7 @@ spelled_address-address col row col_from col_to row_from row_to =
     ∙ ap (λ x. both (λ u v. record { sheet = 0; col = u; row = v }) (Is col) x) (row_of-decimal row row_from row_to)
 
 -- neither letters nor digits have a point
-list_any-none : (p q : ℕ → Bool) (xs : List ℕ) → ((c : ℕ) → q c ≡ true → p c ≡ false) → list_all q xs ≡ true → list_any p xs ≡ false
+pub list_any-none : (p q : ℕ → Bool) (xs : List ℕ) → ((c : ℕ) → q c ≡ true → p c ≡ false) → list_all q xs ≡ true → list_any p xs ≡ false
 list_any-none p q [] apart all = refl
 list_any-none p q (x ∷ xs) apart all =
     let parts = and_parts (q x) (list_all q xs) all in
@@ -177,7 +200,7 @@ are_digits_or_zero-are_digits [] h = h
 are_digits_or_zero-are_digits (c ∷ []) h = (and_parts (is_ascii_digit c) true (and_parts (not (c == 48)) _ h).1).0
 are_digits_or_zero-are_digits (c ∷ d ∷ ds) h = h
 
-sheet_of-sheet_word : (sheet : ℕ) → sheet ≤ 15 → sheet_of (undollared (sheet_word sheet)) ≡ Is sheet
+pub sheet_of-sheet_word : (sheet : ℕ) → sheet ≤ 15 → sheet_of (undollared (sheet_word sheet)) ≡ Is sheet
 sheet_of-sheet_word sheet high =
     let back : sheet + 1 - 1 ≡ sheet = omega arith in
     let digits = are_digits_or_zero-are_digits (decimal (sheet + 1)) (are_digits-decimal (sheet + 1) (omega arith) (omega arith)) in
@@ -192,27 +215,27 @@ list_all-not p (x ∷ xs) h =
     let parts = or_parts (p x) (list_any p xs) h in
     and_from (not (p x)) _ (not_from_false (p x) parts.0) (list_all-not p xs parts.1)
 
--- a point after a text without one cuts there
-record IsCutAtPoint (text word rest : List ℕ) : Type 0 where
-  has : list_any is_point text ≡ true
-  before : before_first is_point text ≡ word
-  after : after_first is_point text ≡ rest
+-- a byte that passes cuts the text after one in which none passes
+pub record IsCutAt (p : ℕ → Bool) (text front rest : List ℕ) : Type 0 where
+  pub has : list_any p text ≡ true
+  pub before : before_first p text ≡ front
+  pub after : after_first p text ≡ rest
 
-cut_at_point : (word rest : List ℕ) → list_any is_point word ≡ false → IsCutAtPoint (word ++ 46 ∷ rest) word rest
-cut_at_point word rest none =
-    let stops = prefix_len-stops (λ x. not (is_point x)) word (46 ∷ rest) (list_all-not is_point word none) refl in
+pub cut_at_first : (p : ℕ → Bool) (c : ℕ) (before rest : List ℕ) → p c ≡ true → list_any p before ≡ false → IsCutAt p (before ++ c ∷ rest) before rest
+cut_at_first p c before rest here none =
+    let stops = prefix_len-stops (λ x. not (p x)) before (c ∷ rest) (list_all-not p before none) (cond-false (not (p c)) _ _ (not_from_true (p c) here)) in
     record {
-      has = list_any-append is_point word (46 ∷ rest) ∙ or_right (list_any is_point word) true refl;
-      before = ap (λ n. take n (word ++ 46 ∷ rest)) stops ∙ take_at word (46 ∷ rest) (length word) refl;
+      has = list_any-append p before (c ∷ rest) ∙ or_right (list_any p before) _ (or_left (p c) (list_any p rest) here);
+      before = ap (λ n. take n (before ++ c ∷ rest)) stops ∙ take_at before (c ∷ rest) (length before) refl;
       after =
-          ap (λ n. drop (n + 1) (word ++ 46 ∷ rest)) stops
-          ∙ sym (drop-drop 1 (length word) (word ++ 46 ∷ rest))
-          ∙ ap (drop 1) (drop_at word (46 ∷ rest) (length word) refl);
+          ap (λ n. drop (n + 1) (before ++ c ∷ rest)) stops
+          ∙ sym (drop-drop 1 (length before) (before ++ c ∷ rest))
+          ∙ ap (drop 1) (drop_at before (c ∷ rest) (length before) refl);
     }
 
 spelled_on_sheet : (word rest : List ℕ) → list_any is_point word ≡ false → (sheet_part (word ++ 46 ∷ rest) ≡ sheet_of (undollared word)) × (after_sheet (word ++ 46 ∷ rest) ≡ rest)
 spelled_on_sheet word rest none =
-    let cut = cut_at_point word rest none in (
+    let cut = cut_at_first is_point 46 word rest refl none in (
       cond-true (list_any is_point (word ++ 46 ∷ rest)) _ _ cut.has ∙ ap (λ w. sheet_of (undollared w)) cut.before,
       cond-true (list_any is_point (word ++ 46 ∷ rest)) _ _ cut.has ∙ cut.after,
     )

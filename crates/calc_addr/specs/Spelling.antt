@@ -1,8 +1,8 @@
 -- How a script spells cells and areas. A cell is the letters of its column, in either case, and its
 -- row; a dollar sign before either says nothing here. An area is a cell, or two with `:` between
 -- them. A sheet's word and `.` may stand in front, and without them the first sheet is meant.
-use Rattle.std.specs.Prelude.{ℕ, Bool, false, not, ◌-◌, ◌&&◌, ◌==◌, nat_eq, nat_le, min, max, if◌then◌else◌, List, [], ◌∷◌, map, drop, codes}
-use Rattle.std.specs.List.{list_all, list_any, prefix_len, take_while, before_first, after_first, starts_with}
+use Rattle.std.specs.Prelude.{ℕ, Bool, false, not, ◌-◌, ◌&&◌, ◌==◌, nat_eq, nat_le, min, max, if◌then◌else◌, ◌+◌, List, [], ◌∷◌, map, take, drop, codes}
+use Rattle.std.specs.List.{list_all, list_any, prefix_len, before_first, after_first, starts_with}
 use Rattle.std.specs.Char.{is_ascii_alphabetic, is_ascii_digit, to_ascii_lowercase}
 use Rattle.std.specs.Str.Parse.{digits_value}
 use Rattle.calc_addr.specs.Cells.{Place, Rectangle}
@@ -51,12 +51,22 @@ column_of letters = if are_letters letters then up_to 1024 (column_number letter
 abbrev pub row_of : List ℕ → Spelled ℕ
 row_of digits = if are_digits digits then up_to 1048576 (digits_value 10 digits) else Not
 
--- a cell without its sheet, as one of the first sheet: letters, and the digits that follow them
+-- how many bytes the letters at the front take, with a dollar sign before them
+abbrev pub column_len : List ℕ → ℕ
+column_len [] = 0
+column_len (c ∷ cs) = if c == 36 then 1 + prefix_len is_ascii_alphabetic cs else prefix_len is_ascii_alphabetic (c ∷ cs)
+
+-- a cell's column, and what follows it
+abbrev pub column_part : List ℕ → List ℕ
+column_part text = take (column_len text) text
+
+abbrev pub row_part : List ℕ → List ℕ
+row_part text = drop (column_len text) text
+
+-- a cell without its sheet, as one of the first sheet
 abbrev pub spelled_address : List ℕ → Spelled Place
 spelled_address text =
-    let word = undollared text in
-    let digits = undollared (drop (prefix_len is_ascii_alphabetic word) word) in
-    both (λ col row. record { sheet = 0; col = col; row = row }) (column_of (take_while is_ascii_alphabetic word)) (row_of digits)
+    both (λ col row. record { sheet = 0; col = col; row = row }) (column_of (undollared (column_part text))) (row_of (undollared (row_part text)))
 
 -- the corners of a rectangle, whichever stands first
 abbrev pub spanned : Place → Place → Rectangle
@@ -113,3 +123,10 @@ area_on sheet a = record a { sheet = sheet }
 
 abbrev pub spelled_area : List ℕ → Spelled Rectangle
 spelled_area text = both area_on (sheet_part text) (spelled_corners (after_sheet text))
+
+-- a column or a row by itself
+abbrev pub spelled_col : List ℕ → Spelled (ℕ × ℕ)
+spelled_col text = both (λ sheet col. (sheet, col)) (sheet_part text) (column_of (undollared (after_sheet text)))
+
+abbrev pub spelled_row : List ℕ → Spelled (ℕ × ℕ)
+spelled_row text = both (λ sheet row. (sheet, row)) (sheet_part text) (row_of (undollared (after_sheet text)))

@@ -4,20 +4,24 @@
 //! is by sheet, then column, then row; within an area this is area order.
 #![tactic(auto)]
 
+mod bracketed;
 mod cell;
+mod ends;
 mod laws;
+mod pieces;
 mod read;
 mod reference;
 mod walk;
 mod write;
 
+pub use bracketed::read_ref;
 pub use cell::{Area, Cell, LAST_COL, LAST_ROW, LAST_SHEET, Run};
-pub use laws::{areas_list_their_cells, cells_read_back};
-pub use read::{Spelled, read_area, read_cell};
+pub use laws::{areas_list_their_cells, cells_read_back, references_read_back};
+pub use read::{Spelled, read_area, read_cell, read_col, read_row};
 pub use reference::{Marks, Ref, Span};
 use std::alloc::AllocError;
 pub use walk::{AreaCells, AreaRows};
-pub use write::{AddrText, write_cell};
+pub use write::{AddrText, write_cell, write_ref, write_run};
 
 /// Want of memory.
 pub type NoMemory = AllocError;

@@ -2,7 +2,7 @@ use Rattle.std.proofs.Common.{◌≡◌, true, min, ◌-◌, ◌^◌, take}
 use Rattle.std.specs.Char.{is_ascii_alphabetic}
 use Rattle.std.specs.List.{list_all}
 use Rattle.calc_addr.specs.Letters.{column_number}
-use Rattle.calc_addr.proofs.read.column_number.Given as goal
+use Rattle.calc_addr.proofs.pieces.column_number.Given as goal
 
 abbrev pub invariant-loop-letter : goal.invariant-loop-letter
 invariant-loop-letter l = record {

@@ -1,7 +1,7 @@
 use Rattle.std.proofs.Common.{◌+◌, ◌==◌, take, drop, sym, ap, ◌∙◌}
 use Rattle.std.proofs.lemmas.List.{take_rest}
 use Rattle.calc_addr.proofs.Cuts.{found_at, not_found}
-use Rattle.calc_addr.proofs.read.cut.Goals as goal
+use Rattle.calc_addr.proofs.pieces.cut.Goals as goal
 
 pub returns-in_err-at : goal.returns-in_err-at
 returns-in_err-at c =
