@@ -48,7 +48,7 @@ print_area (Is area) = if nat_le (cell_count area) 65536 then Do (Print area) el
 print_area Outside = Refused BadCommand
 print_area Not = Refused BadCommand
 
-abbrev pub print_of : List ℕ → Line
+unfoldable pub print_of : List ℕ → Line
 print_of word = print_area (spelled_area word)
 
 abbrev pub is_end : List ℕ → Bool

@@ -27,6 +27,7 @@ pub fn read_line(_alloc: Global, line: &[u8]) -> Result<Line, NoMemory>
     Ok(print(area))
 }
 
+#[tactic(auto, unfolding(crate::specs::Commands::print_of))]
 fn print(word: &[u8]) -> Line
     ensures { result ≡ print_of word.now }
 {

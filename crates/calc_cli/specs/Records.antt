@@ -1,0 +1,19 @@
+-- How shown values are printed: a record for each row of an area. The fields of a record are joined by
+-- commas, and a line feed ends it. A field that has a comma, a quote, a carriage return or a line feed
+-- is put in quotes, with its own quotes doubled. A record of one empty field is `""`.
+use Rattle.std.specs.Prelude.{ℕ, List, map}
+use Rattle.std.specs.List.{flat_map}
+use Rattle.csv.specs.Writing.{default_writer, row_text}
+use Rattle.calc_addr.specs.Cells.{Rectangle, places, rows_of}
+use Rattle.calc_model.specs.Scalars.{Values}
+use Rattle.calc_model.specs.Values.{text_of}
+
+abbrev pub record_text : List (List ℕ) → List ℕ
+record_text fields = row_text default_writer fields
+
+-- the texts of a row's cells
+abbrev pub row_texts : Values → Rectangle → List (List ℕ)
+row_texts values row = map (λ cell. text_of (values cell)) (places row)
+
+abbrev pub printed_area : Values → Rectangle → List ℕ
+printed_area values area = flat_map (λ row. record_text (row_texts values row)) (rows_of area)

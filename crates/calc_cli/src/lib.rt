@@ -1,0 +1,4 @@
+//! The command: a book and a script in, the output of the script's lines out.
+#![tactic(auto)]
+
+mod print;
