@@ -6,7 +6,7 @@ ghost use Rattle.calc_model.specs.Values.{text_of};
 ghost use Rattle.plain_evaluator.specs.Plain.{book_of, results_of};
 ghost use Rattle.calc_cli.specs.Records.{row_texts, printed_area};
 
-use std::alloc::Global;
+use std::alloc::{AllocError, Global};
 
 use calc_addr::{Area, NoMemory};
 use calc_model::show;
@@ -25,4 +25,19 @@ fn fill_record(alloc: Global, cells: &Cells, results: &Results, row: Area, recor
         record.push_field(&text)?;
     }
     Ok(())
+}
+
+/// The records of the rows of an area, behind what `out` holds.
+pub(crate) fn print_area(alloc: Global, out: Vec<u8>, cells: &Cells, results: &Results, area: Area) -> Result<Vec<u8>, NoMemory>
+    ensures { IfOk result (λ text. text.items ≡ out.items ++ printed_area (shown_by (book_of cells.now.entries) (results_of results.now.entries)) area) }
+{
+    let mut writer = WriterBuilder::new().flexible(true).from_writer(out);
+    let mut record = ByteRecord::new(alloc);
+    for row in area.rows() {
+        fill_record(alloc, cells, results, row, &mut record)?;
+        if writer.write_byte_record(&record).is_err() {
+            return Err(AllocError);
+        }
+    }
+    writer.into_inner().map_err(|_| AllocError)
 }

@@ -1,5 +1,7 @@
-ghost use Rattle.std.specs.Prelude.{◌≡◌};
+ghost use Rattle.std.specs.Prelude.{◌≡◌, ◌++◌, OnOk, OnErr};
 ghost use Rattle.calc_model.specs.Values.{fault_text};
+
+use calc_addr::NoMemory;
 
 /// An error value.
 #[derive(Clone, Copy, Debug, PartialEq, Eq)]
@@ -27,6 +29,14 @@ pub enum Fault {
 }
 
 impl Fault {
+    /// Appends the printed text. Where memory is refused, `out` is as before.
+    pub fn show(self, out: &mut Vec<u8>) -> Result<(), NoMemory>
+        ensures ok { OnOk result (out.new.items ≡ out.old.items ++ fault_text self) }
+        ensures err { OnErr result (out.new.items ≡ out.old.items) }
+    {
+        out.extend_from_slice(self.text().as_bytes())
+    }
+
     /// The printed text, as `#N/A`. The first eight are the error constants of a formula.
     pub fn text(self) -> &'static str
         ensures { result.now ≡ fault_text self }

@@ -41,6 +41,19 @@ impl Value {
 }
 
 impl Value {
+    /// Appends the printed text. Where memory is refused, `out` is as before.
+    pub fn show(&self, out: &mut Vec<u8>) -> Result<(), NoMemory>
+        ensures ok { OnOk result (out.new.items ≡ out.old.items ++ text_of self.now) }
+        ensures err { OnErr result (out.new.items ≡ out.old.items) }
+    {
+        match self {
+            Value::Number(number) => show(Seen::Number(*number), out),
+            Value::Words(text) => show(Seen::Words(text), out),
+            Value::Bad(fault) => fault.show(out),
+            Value::Blank => Ok(()),
+        }
+    }
+
     /// The value, lent.
     pub fn seen(&self) -> Seen<'_>
         ensures { lent result ≡ self.now }
@@ -74,7 +87,7 @@ pub fn show(seen: Seen<'_>, out: &mut Vec<u8>) -> Result<(), NoMemory>
     match seen {
         Seen::Number(number) => out.extend_from_slice(number.write().bytes()),
         Seen::Words(text) => out.extend_from_slice(text.as_str().as_bytes()),
-        Seen::Bad(fault) => out.extend_from_slice(fault.text().as_bytes()),
+        Seen::Bad(fault) => fault.show(out),
         Seen::Blank => Ok(()),
     }
 }

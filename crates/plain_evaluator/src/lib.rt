@@ -12,6 +12,6 @@ mod ready;
 mod sweep;
 
 pub use known::is_known;
-pub use maps::{Cells, Results, shown};
+pub use maps::{Cells, Results, show_cell};
 pub use ready::is_ready;
 pub use sweep::evaluate;

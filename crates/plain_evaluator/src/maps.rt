@@ -1,12 +1,12 @@
-ghost use Rattle.std.specs.Prelude.{◌≡◌, unwrap_or};
+ghost use Rattle.std.specs.Prelude.{◌≡◌, ◌++◌, unwrap_or, OnOk, OnErr};
 ghost use Rattle.std.specs.Option.{option_copied};
 ghost use Rattle.calc_model.specs.Books.{content_at};
-ghost use Rattle.calc_model.specs.Values.{lent};
+ghost use Rattle.calc_model.specs.Values.{text_of};
 ghost use Rattle.calc_model.specs.Results.{shown_by};
 ghost use Rattle.plain_evaluator.specs.Plain.{book_of, results_of};
 
-use calc_addr::Cell;
-use calc_model::{Content, Fault, Seen, Value};
+use calc_addr::{Cell, NoMemory};
+use calc_model::{Content, Fault, Value};
 use std::collections::BTreeMap;
 
 /// What each cell that isn't empty holds.
@@ -29,27 +29,29 @@ pub(crate) fn result_of(results: &Results, cell: Cell) -> Option<&Value>
     results.get(&cell)
 }
 
-/// What a cell shows by these results.
-pub fn shown<'a>(cells: &'a Cells, results: &'a Results, cell: Cell) -> Seen<'a>
-    ensures { lent result ≡ shown_by (book_of cells.now.entries) (results_of results.now.entries) cell }
+/// Appends the printed text of what a cell shows by these results. Where memory is refused, `out` is
+/// as before.
+pub fn show_cell(cells: &Cells, results: &Results, cell: Cell, out: &mut Vec<u8>) -> Result<(), NoMemory>
+    ensures ok { OnOk result (out.new.items ≡ out.old.items ++ text_of (shown_by (book_of cells.now.entries) (results_of results.now.entries) cell)) }
+    ensures err { OnErr result (out.new.items ≡ out.old.items) }
 {
     let Some(content) = content_of(cells, cell) else {
-        return Seen::Blank;
+        return Ok(());
     };
     match content {
-        Content::Empty => Seen::Blank,
-        Content::Constant(constant) => constant.value().seen(),
-        Content::Raw(_) => Seen::Bad(Fault::Syntax),
-        Content::Formula(_) => shown_result(results, cell),
+        Content::Empty => Ok(()),
+        Content::Constant(constant) => constant.value().show(out),
+        Content::Raw(_) => Fault::Syntax.show(out),
+        Content::Formula(_) => show_result(results, cell, out),
     }
 }
 
-/// What a formula's cell shows.
-fn shown_result(results: &Results, cell: Cell) -> Seen<'_>
-    ensures { lent result ≡ unwrap_or (results_of results.now.entries cell) (Value.Bad Fault.Circular) }
+fn show_result(results: &Results, cell: Cell, out: &mut Vec<u8>) -> Result<(), NoMemory>
+    ensures ok { OnOk result (out.new.items ≡ out.old.items ++ text_of (unwrap_or (results_of results.now.entries cell) (Value.Bad Fault.Circular))) }
+    ensures err { OnErr result (out.new.items ≡ out.old.items) }
 {
     match result_of(results, cell) {
-        Some(value) => value.seen(),
-        None => Seen::Bad(Fault::Circular),
+        Some(value) => value.show(out),
+        None => Fault::Circular.show(out),
     }
 }
