@@ -66,6 +66,10 @@ an_exponent_is_at_most_1024 : power (whole (pos 1)) (whole (pos 1025)) ≡ Err N
 unfolding repeated_product
 an_exponent_is_at_most_1024 = refl
 
+a_large_exponent_takes_no_step : power (whole (pos 2)) (pos (10 ^ 26)) ≡ Err NotNum
+unfolding repeated_product
+a_large_exponent_takes_no_step = refl
+
 ten_to_the_eighteenth_is_out_of_range : power (whole (pos 10)) (whole (neg_ℤ (pos 18))) ≡ Err Over
 unfolding repeated_product
 ten_to_the_eighteenth_is_out_of_range = refl
@@ -87,6 +91,9 @@ a_half_is_rounded_up = refl
 
 negative_digits_round_before_the_point : rounding Nearest (neg_ℤ (pos 2)) (whole (pos 12345)) ≡ Ok (whole (pos 12300))
 negative_digits_round_before_the_point = refl
+
+many_digits_change_nothing : rounding Away (pos (10 ^ 17)) (pos 1) ≡ Ok (pos 1)
+many_digits_change_nothing = refl
 
 nine_digits_change_nothing : rounding Away (pos 9) (pos 1) ≡ Ok (pos 1)
 nine_digits_change_nothing = refl

@@ -1,5 +1,5 @@
 -- What a way of rounding picks, and what a division rounded down or cut leaves.
-use Rattle.std.proofs.Common.{◌≡◌, ℕ, zero, suc, ◌+◌, ◌-◌, ◌*◌, ◌/◌, ◌%◌, ◌^◌, ◌<◌, ◌≤◌, min, Bool, true, false, not, if◌then◌else◌, ℤ, pos, negsuc, neg_ℤ, nat_abs, int_le, ◌-ℤ◌, ◌*ℤ◌, Result, Ok, Err, inl, inr, refl, ap, ◌∙◌, sym, arith}
+use Rattle.std.proofs.Common.{◌≡◌, ℕ, zero, suc, ◌+◌, ◌-◌, ◌*◌, ◌/◌, ◌%◌, ◌^◌, ◌<◌, ◌≤◌, min, Bool, true, false, not, if◌then◌else◌, ℤ, pos, negsuc, neg_ℤ, nat_abs, int_le, ◌*ℤ◌, Result, Ok, Err, inl, inr, refl, ap, ◌∙◌, sym, arith}
 use mathlib.Core.Bool.{beq}
 use lib.Signed.{lt_z}
 use Rattle.std.proofs.Math.Nat.{mul-add-div_right, div-eq_of_lt, min-eq_left, min-eq_right, pow-le-pow_right, mod-eq_of_lt}
@@ -10,7 +10,7 @@ use Rattle.calc_num.specs.declared.num.NumFault.{NumFault}
 use Rattle.calc_num.specs.declared.num.NumFault.TheVariants.{Over}
 use Rattle.calc_num.specs.declared.rounding.Way.{Way}
 use Rattle.calc_num.specs.declared.rounding.Way.TheVariants.{Nearest, Away, Toward, Floor}
-use Rattle.calc_num.specs.Decimals.{rounded, checked, with_sign, pick, rounding, remainder, whole_quotient}
+use Rattle.calc_num.specs.Decimals.{rounded, checked, with_sign, pick, rounding, remainder, whole_quotient, fewer_than_nine}
 use Rattle.calc_num.proofs.Signs.{not_below_zero, is_raw-sign, times-sign}
 
 -- rounding up is one more than the quotient of what is below
@@ -81,9 +81,9 @@ pick-far way n places small =
           ap (λ k. checked (pick way n (10 ^ k) *ℤ pos (10 ^ k))) (min-eq_right {n = 28} {m = places} above) ∙ is_far way n (10 ^ 28) small (omega arith) ∙ sym (is_far way n (10 ^ places) small (pow-le-pow_right {n = 10} (omega arith) {i = 28} {j = places} above))
     ]
 
-pub rounding-sizes : (way : Way) (digits n : ℤ) (count : ℕ) → nat_abs n < 10 ^ 27 → int_le (pos 9) digits ≡ false → with_sign (lt_z n (pos 0)) count ≡ pick way n (10 ^ min (nat_abs (digits -ℤ pos 9)) 28) → checked (with_sign (lt_z n (pos 0)) (count * 10 ^ min (nat_abs (digits -ℤ pos 9)) 28)) ≡ rounding way digits n
+pub rounding-sizes : (way : Way) (digits n : ℤ) (count : ℕ) → nat_abs n < 10 ^ 27 → int_le (pos 9) digits ≡ false → with_sign (lt_z n (pos 0)) count ≡ pick way n (10 ^ min (fewer_than_nine digits) 28) → checked (with_sign (lt_z n (pos 0)) (count * 10 ^ min (fewer_than_nine digits) 28)) ≡ rounding way digits n
 rounding-sizes way digits n count small fewer picks =
-    let places = nat_abs (digits -ℤ pos 9) in
+    let places = fewer_than_nine digits in
     let unit = 10 ^ min places 28 in
     ap checked (times-sign (lt_z n (pos 0)) count unit ∙ ap (λ k. k *ℤ pos unit) picks) ∙ pick-far way n places small ∙ sym (cond-false (int_le (pos 9) digits) (Ok n) (checked (pick way n (10 ^ places) *ℤ pos (10 ^ places))) fewer)
 

@@ -1,20 +1,20 @@
 -- How a repeated product goes on.
 use Rattle.std.proofs.Common.{◌≡◌, ℕ, zero, suc, ◌+◌, ◌-◌, ◌<◌, ◌≤◌, ℤ, Result, Ok, Err, refl, subst, arith, add-zero}
 use Rattle.calc_num.specs.declared.num.NumFault.{NumFault}
-use Rattle.calc_num.specs.Decimals.{product, and_then, repeated_product}
+use Rattle.calc_num.specs.Decimals.{product, ◌>>=◌, repeated_product}
 
-pub repeated_product-suc : (n : ℤ) (count : ℕ) → repeated_product n (suc count) ≡ and_then (repeated_product n count) (λ before. product before n)
+pub repeated_product-suc : (n : ℤ) (count : ℕ) → repeated_product n (suc count) ≡ (repeated_product n count >>= (λ before. product before n))
 unfolding repeated_product
 repeated_product-suc n count = refl
 
-after : (n : ℤ) (outcome : Result ℤ NumFault) (count more : ℕ) → and_then outcome (λ before. product before n) ≡ outcome → repeated_product n count ≡ outcome → repeated_product n (count + more) ≡ outcome
+after : (n : ℤ) (outcome : Result ℤ NumFault) (count more : ℕ) → (outcome >>= (λ before. product before n)) ≡ outcome → repeated_product n count ≡ outcome → repeated_product n (count + more) ≡ outcome
 after n outcome count zero steady is = rw add-zero is
 after n outcome count (suc more) steady is =
     let next : count + suc more ≡ suc (count + more) = omega arith in
     rw (next, repeated_product-suc n (count + more), after n outcome count more steady is) steady
 
 -- what a further step doesn't change stays
-pub repeated_product-steady : (n : ℤ) (outcome : Result ℤ NumFault) (count most : ℕ) → and_then outcome (λ before. product before n) ≡ outcome → repeated_product n count ≡ outcome → count ≤ most → repeated_product n most ≡ outcome
+pub repeated_product-steady : (n : ℤ) (outcome : Result ℤ NumFault) (count most : ℕ) → (outcome >>= (λ before. product before n)) ≡ outcome → repeated_product n count ≡ outcome → count ≤ most → repeated_product n most ≡ outcome
 repeated_product-steady n outcome count most steady is within =
     let sum : count + (most - count) ≡ most = omega arith in
     subst (λ k. repeated_product n k ≡ outcome) sum (after n outcome count (most - count) steady is)

@@ -45,24 +45,29 @@ quotient n (negsuc m) = checked (nearest (neg_ℤ (n *ℤ pos (10 ^ 9))) (suc m)
 abbrev pub percent : ℤ → ℤ
 percent n = nearest n 100
 
--- what comes after a number that may be a fault
-abbrev pub and_then : Result ℤ NumFault → (ℤ → Result ℤ NumFault) → Result ℤ NumFault
-and_then (Ok n) next = next n
-and_then (Err fault) next = Err fault
+-- what comes after a result that may be a fault
+infixl 10 ◌>>=◌
+abbrev pub ◌>>=◌ : {A B : Type 0} → Result A NumFault → (A → Result B NumFault) → Result B NumFault
+Ok value >>= next = next value
+Err fault >>= next = Err fault
 
 -- 1 multiplied by n so many times, rounded and tested at each step
 unfoldable pub repeated_product : ℤ → ℕ → Result ℤ NumFault
 repeated_product n zero = Ok (pos (10 ^ 9))
-repeated_product n (suc count) = and_then (repeated_product n count) (λ before. product before n)
+repeated_product n (suc count) = repeated_product n count >>= (λ before. product before n)
 
--- n to the power of a whole number from -1,024 to 1,024; for a negative one, 1 divided by the product
-abbrev pub is_exponent : ℤ → Bool
-is_exponent exponent = unsigned_abs exponent % 10 ^ 9 == 0 && nat_le (unsigned_abs exponent / 10 ^ 9) 1024
+-- how often an exponent multiplies: it is a whole number from -1,024 to 1,024
+abbrev pub exponent_size : ℤ → Result ℕ NumFault
+exponent_size exponent =
+    let size = unsigned_abs exponent in
+    if size % 10 ^ 9 == 0 && nat_le (size / 10 ^ 9) 1024 then Ok (size / 10 ^ 9) else Err NotNum
 
+-- n to the power of an exponent, which for a negative one is 1 divided by the product
 abbrev pub power : ℤ → ℤ → Result ℤ NumFault
-power n exponent =
-    let up = repeated_product n (unsigned_abs exponent / 10 ^ 9) in
-    if is_exponent exponent then (if int_lt exponent (pos 0) then and_then up (quotient (pos (10 ^ 9))) else up) else Err NotNum
+power n exponent = do
+  count ← exponent_size exponent
+  up ← repeated_product n count
+  if int_lt exponent (pos 0) then quotient (pos (10 ^ 9)) up else Ok up
 
 -- the whole number that a way of rounding picks for n / unit
 abbrev pub pick : Way → ℤ → ℕ → ℤ
@@ -74,10 +79,15 @@ pick Toward (negsuc n) unit = neg_ℤ (pos (suc n / unit))
 pick Floor (pos n) unit = pos (n / unit)
 pick Floor (negsuc n) unit = negsuc (n / unit)
 
+-- how many digits fewer than nine
+abbrev pub fewer_than_nine : ℤ → ℕ
+fewer_than_nine (pos digits) = 9 - digits
+fewer_than_nine (negsuc digits) = 10 + digits
+
 -- the multiple of 10^(-digits) that a way of rounding picks for n, which is n itself from nine digits on
 abbrev pub rounding : Way → ℤ → ℤ → Result ℤ NumFault
 rounding way digits n =
-    let unit = 10 ^ unsigned_abs (digits -ℤ pos 9) in
+    let unit = 10 ^ fewer_than_nine digits in
     if int_le (pos 9) digits then Ok n else checked (pick way n unit *ℤ pos unit)
 
 -- the greatest whole number that isn't above n / m
@@ -85,7 +95,7 @@ abbrev pub floor_quotient : ℤ → ℤ → ℤ
 floor_quotient n (pos m) = pick Floor n m
 floor_quotient n (negsuc m) = pick Floor (neg_ℤ n) (suc m)
 
--- what is left of n when m is taken off so many times
+-- what is left of n without m times that
 abbrev pub remainder : ℤ → ℤ → Result ℤ NumFault
 remainder n (pos zero) = Err DivZero
 remainder n m = Ok (n -ℤ m *ℤ floor_quotient n m)

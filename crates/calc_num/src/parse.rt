@@ -176,8 +176,8 @@ impl Partial {
     }
 }
 
-/// How many digits stand before the tenth place behind the shifted point, where they are cut off; None
-/// where the cut stands before the first digit.
+/// How many digits stand before the cut, which is nine places behind the shifted point. None where the
+/// cut is before the first digit.
 fn places_before_cut(count: usize, exponent: i128) -> Option<u128>
     requires low { neg_ℤ (pos (10 ^ 20)) ≤ℤ exponent }
     requires high { exponent ≤ℤ pos (10 ^ 20) }

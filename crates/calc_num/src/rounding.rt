@@ -1,6 +1,6 @@
 //! Rounding to a number of digits, and what is left of a division.
-ghost use Rattle.std.specs.Prelude.{◌≡◌, ◌+◌, ◌-◌, ◌*◌, ◌%◌, ◌^◌, ◌<◌, ◌≤◌, min, pos, ◌-ℤ◌, unsigned_abs, if◌then◌else◌};
-ghost use Rattle.calc_num.specs.Decimals.{with_sign, pick, rounding, remainder, whole_quotient};
+ghost use Rattle.std.specs.Prelude.{◌≡◌, ◌+◌, ◌-◌, ◌*◌, ◌%◌, ◌^◌, ◌<◌, ◌≤◌, min, pos, ◌<ℤ◌, if◌then◌else◌};
+ghost use Rattle.calc_num.specs.Decimals.{with_sign, pick, fewer_than_nine, rounding, remainder, whole_quotient};
 
 use crate::num::{Num, NumFault, ONE};
 
@@ -20,7 +20,8 @@ pub enum Way {
 /// The unit of a number of digits: ten to the nine less the digits, or 10^28 where that is greater,
 /// which is beyond every number too.
 fn unit_of(digits: i64) -> u128
-    ensures value { result ≡ 10 ^ min (unsigned_abs (digits -ℤ pos 9)) 28 }
+    requires { digits <ℤ pos 9 }
+    ensures value { result ≡ 10 ^ min (fewer_than_nine digits) 28 }
     ensures bounds { (0 < result) × (result ≤ 10 ^ 28) }
 {
     10u128.pow(digits.abs_diff(9).min(28) as u32)
