@@ -1,17 +1,16 @@
-ghost use Rattle.std.specs.Prelude.{◌≡◌, ◌++◌, IfOk, OnOk, map};
+ghost use Rattle.std.specs.Prelude.{◌≡◌, ◌++◌, ℕ, List, IfOk, OnOk, map};
 ghost use Rattle.csv.specs.Records.{fields_of};
 ghost use Rattle.calc_addr.specs.Cells.{places};
 ghost use Rattle.calc_model.specs.Results.{shown_by};
 ghost use Rattle.calc_model.specs.Values.{text_of};
 ghost use Rattle.plain_evaluator.specs.Plain.{book_of, results_of};
-ghost use Rattle.calc_cli.specs.Records.{row_texts, printed_area};
+ghost use Rattle.calc_cli.specs.Records.{row_texts, record_text, printed_area, Holds};
 
 use std::alloc::{AllocError, Global};
 
 use calc_addr::{Area, NoMemory};
-use calc_model::show;
-use csv::{ByteRecord, WriterBuilder};
-use plain_evaluator::{Cells, Results, shown};
+use csv::{ByteRecord, Writer, WriterBuilder};
+use plain_evaluator::{Cells, Results, show_cell};
 
 /// Puts the texts of a row's cells into a record.
 fn fill_record(alloc: Global, cells: &Cells, results: &Results, row: Area, record: &mut ByteRecord) -> Result<(), NoMemory>
@@ -21,7 +20,7 @@ fn fill_record(alloc: Global, cells: &Cells, results: &Results, row: Area, recor
     record.clear();
     for cell in row.cells() {
         text.clear();
-        show(shown(cells, results, cell), &mut text)?;
+        show_cell(cells, results, cell, &mut text)?;
         record.push_field(&text)?;
     }
     Ok(())
@@ -31,13 +30,36 @@ fn fill_record(alloc: Global, cells: &Cells, results: &Results, row: Area, recor
 pub(crate) fn print_area(alloc: Global, out: Vec<u8>, cells: &Cells, results: &Results, area: Area) -> Result<Vec<u8>, NoMemory>
     ensures { IfOk result (λ text. text.items ≡ out.items ++ printed_area (shown_by (book_of cells.now.entries) (results_of results.now.entries)) area) }
 {
-    let mut writer = WriterBuilder::new().flexible(true).from_writer(out);
+    let mut writer = writer_to(out);
     let mut record = ByteRecord::new(alloc);
     for row in area.rows() {
         fill_record(alloc, cells, results, row, &mut record)?;
-        if writer.write_byte_record(&record).is_err() {
-            return Err(AllocError);
-        }
+        write_record(&mut writer, &record)?;
     }
-    writer.into_inner().map_err(|_| AllocError)
+    written_by(writer)
+}
+
+fn writer_to(out: Vec<u8>) -> Writer<Vec<u8>>
+    ensures { Holds result out.items }
+{
+    WriterBuilder::new().from_writer(out)
+}
+
+/// Writes one record. All records of an area have one length, so only memory can be wanting.
+fn write_record(writer: &mut Writer<Vec<u8>>, record: &ByteRecord) -> Result<(), NoMemory>
+    ensures { (bytes : List ℕ) → Holds writer.old bytes → OnOk result (Holds writer.new (bytes ++ record_text (fields_of record.now))) }
+{
+    match writer.write_byte_record(record) {
+        Ok(()) => Ok(()),
+        Err(_) => Err(AllocError),
+    }
+}
+
+fn written_by(writer: Writer<Vec<u8>>) -> Result<Vec<u8>, NoMemory>
+    ensures { (bytes : List ℕ) → Holds writer bytes → IfOk result (λ text. text.items ≡ bytes) }
+{
+    match writer.into_inner() {
+        Ok(text) => Ok(text),
+        Err(_) => Err(AllocError),
+    }
 }
