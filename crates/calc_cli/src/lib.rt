@@ -1,5 +1,6 @@
 //! The command: a book and a script in, the output of the script's lines out.
 #![tactic(auto)]
 
+mod input;
 mod print;
 mod write;
