@@ -1,7 +1,9 @@
 -- A book: a finite map from cells to contents that aren't empty, and a finite map from names to areas.
-use Rattle.std.specs.Prelude.{◌≡◌, ◌≤◌, ℕ, Bool, true, false, List, length, unwrap_or}
+use Rattle.std.specs.Prelude.{◌≡◌, ◌≤◌, ℕ, Bool, true, false, List, length, unwrap_or, if◌then◌else◌}
 use Rattle.std.specs.List.{filter, list_all}
 use Rattle.std.specs.FinMap.Entries.{find, is_sorted}
+use Rattle.std.specs.BTreeMap.{insert_entry, is_at}
+use Rattle.std.specs.Map.{remove_entry}
 use Rattle.std.specs.Ordering.{nat_cmp}
 use Rattle.std.specs.Cmp.Lexicographic.{slice_cmp}
 use Rattle.std.specs.Str.{str_to_ascii_uppercase}
@@ -21,6 +23,16 @@ pub record Book : Type 0 where
 unfoldable pub content_at : Book → Place → Content
 content_at book place = unwrap_or (find place_cmp place book.cells) Empty
 
+-- something stands in the cell
+abbrev pub is_held : Content → Bool
+is_held Empty = false
+is_held _ = true
+
+-- the cells with that content in one of them, or with nothing where it is empty
+abbrev pub with_content : List (Place × Content) → Place → Content → List (Place × Content)
+with_content cells cell content =
+    if is_held content then insert_entry place_cmp cells cell content else remove_entry (is_at (place_cmp cell)) cells
+
 -- what the name stands for, in capitals or not
 unfoldable pub area_named : Book → List ℕ → Looked
 area_named book name = unwrap_or (find (slice_cmp nat_cmp) (str_to_ascii_uppercase name) book.names) Absent
@@ -28,10 +40,6 @@ area_named book name = unwrap_or (find (slice_cmp nat_cmp) (str_to_ascii_upperca
 abbrev pub is_formula : Content → Bool
 is_formula (Formula tree) = true
 is_formula _ = false
-
-abbrev pub is_held : Content → Bool
-is_held Empty = false
-is_held _ = true
 
 -- how many cells hold a formula
 unfoldable pub formula_count : Book → ℕ
