@@ -48,7 +48,7 @@ abbrev pub is_plain_field : List ℕ → Bool
 is_plain_field field = not (begins_number field) || is_plain_number field
 
 abbrev pub is_plain_record : List ℕ → Bool
-is_plain_record record = nat_lt 0 (length record) && nat_le (length (fields_in record)) 1024 && list_all is_plain_field (fields_in record)
+is_plain_record text = nat_lt 0 (length text) && nat_le (length (fields_in text)) 1024 && list_all is_plain_field (fields_in text)
 
 abbrev pub is_plain_book : List ℕ → Bool
 is_plain_book bytes = nat_le (length bytes) 65535 && list_all is_plain_byte bytes && list_all is_plain_record (lines_of bytes)
@@ -65,7 +65,7 @@ with_fields row col cells (field ∷ fields) =
 -- the cells with the fields of records, from a row on
 abbrev pub with_records : ℕ → Cells → List (List ℕ) → Cells
 with_records row cells [] = cells
-with_records row cells (record ∷ records) = with_records (row + 1) (with_fields row 1 cells (fields_in record)) records
+with_records row cells (text ∷ texts) = with_records (row + 1) (with_fields row 1 cells (fields_in text)) texts
 
 abbrev pub book_cells : List ℕ → Cells
 book_cells bytes = with_records 1 [] (lines_of bytes)

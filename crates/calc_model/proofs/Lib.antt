@@ -9,3 +9,4 @@ pub mod Places
 pub mod Counting
 pub mod Readiness
 pub mod Building
+mod FieldExamples

@@ -1,0 +1,3 @@
+pub mod Cutting
+pub mod SumTexts
+pub mod Spelling

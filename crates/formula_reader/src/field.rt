@@ -1,0 +1,47 @@
+ghost use Rattle.calc_model.specs.Fields.{begins_formula, field_of, formula_or_raw};
+ghost use Rattle.calc_model.specs.Formulas.{formula_of};
+ghost use Rattle.std.specs.Prelude.{IfOk, ◌≡◌};
+ghost use Rattle.std.specs.Str.{IsUtf8};
+
+use crate::constant::{over, read_constant, to_text};
+use crate::formula::read_formula;
+use calc_addr::NoMemory;
+use calc_model::{Content, Formula};
+use std::alloc::Global;
+
+/// The most bytes that a field may have and be kept.
+const MAX_LEN: usize = 65_535;
+
+/// What a cell holds whose field is this text. Linear in the text.
+pub fn read_field(alloc: Global, field: &[u8]) -> Result<Content, NoMemory>
+    requires { IsUtf8 field.now }
+    ensures { IfOk result (λ content. content ≡ field_of field.now) }
+{
+    if field.is_empty() {
+        Ok(Content::Empty)
+    } else if field.len() > MAX_LEN {
+        Ok(Content::Constant(over()))
+    } else if begins_formula(field) {
+        read_begun(alloc, field)
+    } else {
+        Ok(Content::Constant(read_constant(alloc, field)?))
+    }
+}
+
+/// Whether a text begins as a formula does.
+fn begins_formula(text: &[u8]) -> bool
+    ensures { result ≡ begins_formula text.now }
+{
+    text.starts_with(b"=") || text.starts_with(b"of:=")
+}
+
+/// What a cell holds whose field begins as a formula does.
+fn read_begun(alloc: Global, text: &[u8]) -> Result<Content, NoMemory>
+    requires { IsUtf8 text.now }
+    ensures { IfOk result (λ content. content ≡ formula_or_raw text.now (formula_of text.now)) }
+{
+    match read_formula(alloc, text)? {
+        Some(tree) => Ok(Content::Formula(Formula::of(tree))),
+        None => Ok(Content::Raw(to_text(alloc, text)?)),
+    }
+}
