@@ -4,7 +4,8 @@
 -- a quote, a carriage return or a byte past ASCII, an empty line, a record of more than 1,024 fields, or
 -- a field that begins as a number and isn't a plain one: an optional sign, 1 to 18 digits and, if need be,
 -- a point with 1 to 9 digits.
-use Rattle.std.specs.Prelude.{ℕ, ◌+◌, ◌==◌, ◌&&◌, ◌||◌, not, nat_le, nat_lt, Bool, true, false, List, [], ◌∷◌, ◌++◌, length, drop, Option, Some, None, fold, if◌then◌else◌}
+use Rattle.std.specs.Prelude.{ℕ, ◌+◌, ◌==◌, ◌&&◌, ◌||◌, not, nat_le, nat_lt, Bool, true, false, List, [], ◌∷◌, ◌++◌, length, drop, Option, Some, None, if◌then◌else◌}
+use denote.Ref.{Bor}
 use Rattle.std.specs.List.{list_all, prefix_len, slice_split}
 use Rattle.std.specs.Char.{is_ascii_digit}
 use Rattle.calc_addr.specs.Cells.{Place}
@@ -15,6 +16,11 @@ use Rattle.calc_script.specs.Lines.{lines_of}
 
 abbrev pub fields_in : List ℕ → List (List ℕ)
 fields_in text = slice_split (λ byte. byte == 44) text
+
+-- the fields of the text that is left, if there is one
+abbrev pub fields_left : Option (Bor (List ℕ)) → List (List ℕ)
+fields_left None = []
+fields_left (Some text) = fields_in text.now
 
 abbrev pub is_plain_byte : ℕ → Bool
 is_plain_byte byte = nat_le byte 127 && not (byte == 34) && not (byte == 13)

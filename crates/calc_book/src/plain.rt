@@ -1,0 +1,118 @@
+//! Which books can be read so far.
+ghost use Rattle.std.specs.Prelude.{◌≡◌, ◌≤◌, nat_le, length};
+ghost use Rattle.std.specs.List.{list_all};
+ghost use Rattle.calc_book.specs.BookForm.{fields_in, begins_number, count_digits, is_plain_byte, is_plain_end, is_plain_unsigned, is_plain_number, is_plain_field, is_plain_record, is_plain_book};
+ghost use Rattle.calc_script.specs.Lines.{lines_of};
+
+use calc_script::lines;
+
+use crate::splitting::fields_of;
+
+/// The most bytes and fields that a book and a record may have so far.
+pub(crate) const MOST_BYTES: usize = 65_535;
+
+const MOST_FIELDS: usize = 1_024;
+
+/// Whether the book is one that can be read so far.
+pub(crate) fn is_plain_book(bytes: &[u8]) -> bool
+    ensures { result ≡ is_plain_book bytes.now }
+{
+    bytes.len() <= MOST_BYTES && are_plain_bytes(bytes) && are_plain_records(bytes)
+}
+
+fn are_plain_bytes(bytes: &[u8]) -> bool
+    ensures { result ≡ list_all is_plain_byte bytes.now }
+{
+    bytes
+        .iter()
+        .all(|byte| *byte <= 127 && *byte != b'"' && *byte != b'\r')
+}
+
+fn are_plain_records(bytes: &[u8]) -> bool
+    ensures { result ≡ list_all is_plain_record (lines_of bytes.now) }
+{
+    for record in lines(bytes) {
+        if !is_plain_record(record) {
+            return false;
+        }
+    }
+    true
+}
+
+fn is_plain_record(record: &[u8]) -> bool
+    ensures { result ≡ is_plain_record record.now }
+{
+    !record.is_empty() && has_few_fields(record) && are_plain_fields(record)
+}
+
+fn has_few_fields(record: &[u8]) -> bool
+    ensures { result ≡ nat_le (length (fields_in record.now)) 1024 }
+{
+    let mut count = 0;
+    for _field in fields_of(record) {
+        if count == MOST_FIELDS {
+            return false;
+        }
+        count += 1;
+    }
+    true
+}
+
+fn are_plain_fields(record: &[u8]) -> bool
+    ensures { result ≡ list_all is_plain_field (fields_in record.now) }
+{
+    for field in fields_of(record) {
+        if begins_number(field) && !is_plain_number(field) {
+            return false;
+        }
+    }
+    true
+}
+
+/// Whether a field begins as a number does.
+fn begins_number(field: &[u8]) -> bool
+    ensures { result ≡ begins_number field.now }
+{
+    match field.first() {
+        Some(byte) => byte.is_ascii_digit() || matches!(byte, b'.' | b'+' | b'-'),
+        None => false,
+    }
+}
+
+fn is_plain_number(field: &[u8]) -> bool
+    ensures { result ≡ is_plain_number field.now }
+{
+    match field.split_first() {
+        Some((b'+' | b'-', rest)) => is_plain_unsigned(rest),
+        _ => is_plain_unsigned(field),
+    }
+}
+
+fn is_plain_unsigned(text: &[u8]) -> bool
+    ensures { result ≡ is_plain_unsigned text.now }
+{
+    let whole = count_digits(text);
+    (1..=18).contains(&whole) && is_plain_end(&text[whole..])
+}
+
+/// Whether a text is empty, or a point and one to nine digits.
+fn is_plain_end(text: &[u8]) -> bool
+    ensures { result ≡ is_plain_end text.now }
+{
+    match text.split_first() {
+        None => true,
+        Some((point, digits)) => {
+            *point == b'.'
+                && (1..=9).contains(&digits.len())
+                && count_digits(digits) == digits.len()
+        }
+    }
+}
+
+/// How many digits the text begins with.
+fn count_digits(text: &[u8]) -> usize
+    ensures within { result ≤ length text.now }
+    ensures digits { result ≡ count_digits text.now }
+{
+    text.iter().take_while(|byte| byte.is_ascii_digit()).count()
+}
