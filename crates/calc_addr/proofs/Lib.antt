@@ -1,6 +1,8 @@
+pub mod AsciiTexts
 pub mod Columns
 pub mod Cuts
 pub mod Digits
+pub mod EndsInOrder
 pub mod Joined
 mod Examples
 mod ShiftExamples
@@ -8,7 +10,9 @@ pub mod MoveLaws
 pub mod Moving
 pub mod Order
 pub mod Places
+pub mod ReferenceInside
 pub mod ReferenceTrip
 pub mod RoundTrip
 pub mod ShiftLaws
 pub mod Shifting
+pub mod SpelledInside

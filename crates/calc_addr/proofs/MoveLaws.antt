@@ -1,18 +1,19 @@
 -- A move keeps references, and the opposite move gives them back.
 use Rattle.std.proofs.Common.{◌≡◌, ℕ, ◌<◌, ◌≤◌, ℤ, pos, negsuc, ◌+ℤ◌, neg_ℤ, Bool, true, false, ◌&&◌, cond, Option, Some, None, refl, sym, ap, ◌∙◌, subst, inl, inr, ⊎_elim, arith}
 use Rattle.std.specs.Prelude.{nat_le, int_le, option_map, unsigned_abs}
-use Rattle.std.proofs.lemmas.Bool.{and_from, and_parts, leb-true, cond-true, cond-false, le-leb, lt-leb, cases_lt}
+use Rattle.std.proofs.lemmas.Bool.{and_from, and_parts, leb-true, cond-true, le-leb, cases_lt}
 use Rattle.std.proofs.lemmas.Int.{ints}
 use Rattle.std.proofs.lemmas.Option.{cond_some}
 use Rattle.calc_addr.specs.Bracketed.{together}
 use Rattle.calc_addr.specs.Cells.{IsRectangle}
 use Rattle.calc_addr.specs.Ends.{AreEnds, in_order, cols_of, rows_of}
 use Rattle.calc_addr.specs.Moves.{AreSameEnds, IsSameReference, at_distance, moved_end, moved_ends, moved_cols, moved_rows, moved_reference, with_ends}
-use Rattle.calc_addr.specs.References.{Reference, IsReference, IsWhole}
+use Rattle.calc_addr.specs.References.{Reference, IsReference, IsValidReference}
 use Rattle.calc_addr.specs.declared.ends.End.{End}
 use Rattle.calc_addr.specs.declared.ends.Ends.{Ends}
 use Rattle.calc_addr.specs.declared.reference.Span.{Span}
 use Rattle.calc_addr.specs.declared.reference.Span.TheVariants as span
+use Rattle.calc_addr.proofs.EndsInOrder.{in_order-down, in_order-up}
 use Rattle.calc_addr.proofs.Moving.{moved_spanned}
 
 -- a whole number from 1 to the last
@@ -65,14 +66,14 @@ moved_back : (last : ℕ) (distance : ℤ) (e f : End) → 1 ≤ e.at → e.at �
 moved_back last distance e f low high to = by_mark last distance e.at f e.marked low high to
 
 -- both parts of what is together
-record ArePair {A B C : Type 0} (f : A → B → C) (x : Option A) (y : Option B) (c : C) : Type 0 where
-  first : A
-  second : B
-  first_is : x ≡ Some first
-  second_is : y ≡ Some second
-  made : f first second ≡ c
+pub record ArePair {A B C : Type 0} (f : A → B → C) (x : Option A) (y : Option B) (c : C) : Type 0 where
+  pub first : A
+  pub second : B
+  pub first_is : x ≡ Some first
+  pub second_is : y ≡ Some second
+  pub made : f first second ≡ c
 
-pair_of : {A B C : Type 0} (f : A → B → C) (x : Option A) (y : Option B) (c : C) → together f x y ≡ Some c → ArePair f x y c
+pub pair_of : {A B C : Type 0} (f : A → B → C) (x : Option A) (y : Option B) (c : C) → together f x y ≡ Some c → ArePair f x y c
 pair_of f (Some a) (Some b) c e = record { first = a; second = b; first_is = refl; second_is = refl; made = cc }
 pair_of f (Some a) None c e = cc
 pair_of f None y c e = cc
@@ -86,12 +87,6 @@ record AreBack (last : ℕ) (move : ℤ → Ends → Option Ends) (distance : �
 
 abbrev pair : End → End → Ends
 pair a b = record { first = a; last = b }
-
-in_order-up : (a b : End) → a.at ≤ b.at → in_order a b ≡ pair a b
-in_order-up a b h = cond-true (nat_le a.at b.at) _ _ (le-leb a.at b.at h)
-
-in_order-down : (a b : End) → b.at < a.at → in_order a b ≡ pair b a
-in_order-down a b h = cond-false (nat_le a.at b.at) _ _ (lt-leb a.at b.at h)
 
 back_up : (last : ℕ) (distance : ℤ) (e : Ends) (x y : End) → AreEnds last e → IsBack last distance e.first x → IsBack last distance e.last y → x.at ≤ y.at → AreBack last (moved_ends last) distance e (pair x y)
 back_up last distance e x y is first second up = record {
@@ -190,8 +185,8 @@ IsReference-moved cols rows r s is to =
       own_sheet = is.own_sheet;
     })
 
-pub IsWhole-moved : (cols rows : ℤ) (r s : Reference) → IsWhole r → moved_reference cols rows r ≡ Some s → IsWhole s
-IsWhole-moved cols rows r s is to =
+pub IsValidReference-moved : (cols rows : ℤ) (r s : Reference) → IsValidReference r → moved_reference cols rows r ≡ Some s → IsValidReference s
+IsValidReference-moved cols rows r s is to =
     record { lies = IsRectangle-moved cols rows r s is.lies to; spelled = IsReference-moved cols rows r s is.spelled to }
 
 -- the opposite move gives the reference back

@@ -1,21 +1,16 @@
 -- References that move with their formula.
-use Rattle.std.proofs.Common.{◌≡◌, ℕ, ℤ, Option, Some, None, sym, ap, ◌∙◌, arith}
-use Rattle.std.specs.Prelude.{nat_le}
-use Rattle.std.proofs.lemmas.Bool.{cond-true, le-leb}
+use Rattle.std.proofs.Common.{◌≡◌, ℕ, ℤ, Option, Some, None, sym, ap, ◌∙◌}
 use Rattle.calc_addr.specs.Bracketed.{together}
 use Rattle.calc_addr.specs.Cells.{Rectangle}
 use Rattle.calc_addr.specs.Ends.{in_order, cols_of, rows_of}
 use Rattle.calc_addr.specs.Moves.{moved_end, moved_ends, moved_cols, moved_rows, with_ends}
 use Rattle.calc_addr.specs.References.{IsSpanned}
+use Rattle.calc_addr.proofs.EndsInOrder.{in_order-same}
 use Rattle.calc_addr.specs.declared.ends.End.{End}
 use Rattle.calc_addr.specs.declared.ends.Ends.{Ends}
 use Rattle.calc_addr.specs.declared.reference.Marks.{Marks}
 use Rattle.calc_addr.specs.declared.reference.Span.{Span}
 use Rattle.calc_addr.specs.declared.reference.Span.TheVariants as span
-
--- one end twice
-in_order-same : (e : End) → in_order e e ≡ record { first = e; last = e }
-in_order-same e = cond-true (nat_le e.at e.at) _ _ (le-leb e.at e.at (omega arith))
 
 together-same : (x : Option End) (to : Ends) → together in_order x x ≡ Some to → to.first ≡ to.last
 together-same None to e = cc

@@ -4,7 +4,7 @@ use Rattle.std.specs.Prelude.{nat_le, option_map}
 use Rattle.std.proofs.lemmas.Bool.{cond-true, cond-false, leb-true, and_from, and_left, eq-eqb, cases_Bool, not-true, true≢false}
 use Rattle.std.proofs.lemmas.Bool.Decides.{nat_tests}
 use Rattle.calc_addr.specs.Cells.{Rectangle, IsRectangle}
-use Rattle.calc_addr.specs.References.{Reference, IsReference, IsWhole, IsSpanned, IsOne, AreColumns, AreRows}
+use Rattle.calc_addr.specs.References.{Reference, IsReference, IsValidReference, IsSpanned, IsOne, AreColumns, AreRows}
 use Rattle.calc_addr.specs.Shifts.{area_after_insertion, area_after_deletion, has_all_rows, is_deleted, on_area, reference_after_insertion, reference_after_deletion, row_after_insertion, row_after_deletion, with_rows}
 use Rattle.calc_addr.specs.declared.reference.Marks.{Marks}
 use Rattle.calc_addr.specs.declared.reference.Span.{Span}
@@ -150,13 +150,13 @@ IsReference-deletion place count r s is e =
       own_sheet = λ h. sheet_deleted place count r.area s.area to.area ∙ is.own_sheet h;
     })
 
-pub IsWhole-insertion : (place count : ℕ) (r s : Reference) → IsWhole r → reference_after_insertion place count r ≡ Some s → IsWhole s
-IsWhole-insertion place count r s is e =
+pub IsValidReference-insertion : (place count : ℕ) (r s : Reference) → IsValidReference r → reference_after_insertion place count r ≡ Some s → IsValidReference s
+IsValidReference-insertion place count r s is e =
     let to = shifted (area_after_insertion place count r.area) r s e in
     record { lies = IsRectangle-insertion place count r.area s.area is.lies to.area; spelled = IsReference-insertion place count r s is.spelled e }
 
-pub IsWhole-deletion : (place count : ℕ) (r s : Reference) → 1 ≤ place → IsWhole r → reference_after_deletion place count r ≡ Some s → IsWhole s
-IsWhole-deletion place count r s low is e =
+pub IsValidReference-deletion : (place count : ℕ) (r s : Reference) → 1 ≤ place → IsValidReference r → reference_after_deletion place count r ≡ Some s → IsValidReference s
+IsValidReference-deletion place count r s low is e =
     let to = shifted (area_after_deletion place count r.area) r s e in
     record { lies = IsRectangle-deletion place count r.area s.area low is.lies to.area; spelled = IsReference-deletion place count r s is.spelled e }
 

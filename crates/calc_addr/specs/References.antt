@@ -47,7 +47,7 @@ pub record IsReference (r : Reference) : Type 0 where
 abbrev pub here : Reference → Place → Rectangle
 here r home = if r.marks.sheet then r.area else record r.area { sheet = home.sheet }
 
--- a reference, and an area that it may have
-pub record IsWhole (r : Reference) : Type 0 where
+-- a reference that a formula can have
+pub record IsValidReference (r : Reference) : Type 0 where
   pub lies : IsRectangle r.area
   pub spelled : IsReference r

@@ -2,11 +2,11 @@ ghost use Rattle.calc_addr.specs.Addresses.{address};
 ghost use Rattle.calc_addr.specs.Bracketed.{printed_reference, spelled_reference};
 ghost use Rattle.calc_addr.specs.Cells.{IsBefore, IsPlace, IsRectangle, Place, Rectangle, covers, places};
 ghost use Rattle.calc_addr.specs.Moves.{IsSameReference, moved_reference};
-ghost use Rattle.calc_addr.specs.References.{IsReference, IsWhole, Reference};
+ghost use Rattle.calc_addr.specs.References.{IsReference, IsValidReference, Reference};
 ghost use Rattle.calc_addr.specs.Shifts.{area_after_deletion, area_after_insertion, has_all_rows, is_deleted, place_after_deletion, place_after_insertion, reference_after_deletion, reference_after_insertion, row_after_insertion};
-ghost use Rattle.calc_addr.specs.Spelling.{spelled_cell};
+ghost use Rattle.calc_addr.specs.Spelling.{spelled_area, spelled_cell};
 ghost use Rattle.calc_addr.specs.declared.read.Spelled.TheVariants.{Is};
-ghost use Rattle.std.specs.Prelude.{AllPairs, Contains, false, length, neg_ℤ, true, ℕ, ℤ, ◌*◌, ◌+◌, ◌-◌, ◌<◌, ◌↔◌, ◌≡◌, ◌≤◌};
+ghost use Rattle.std.specs.Prelude.{AllPairs, Contains, List, false, length, neg_ℤ, true, ℕ, ℤ, ◌*◌, ◌+◌, ◌-◌, ◌<◌, ◌↔◌, ◌≡◌, ◌≤◌};
 
 use crate::cell::LAST_ROW;
 
@@ -18,6 +18,13 @@ pub fn cells_read_back()
 /// What is printed for a reference is read as that reference.
 pub fn references_read_back()
     ensures { (r : Reference) → IsRectangle r.area → IsReference r → spelled_reference (printed_reference r) ≡ Some r }
+{}
+
+/// What is spelled lies in the sheets, and its ends are in order.
+pub fn spelled_words_lie_inside()
+    ensures cells { (text : List ℕ) (p : Place) → spelled_cell text ≡ Is p → IsPlace p }
+    ensures areas { (text : List ℕ) (a : Rectangle) → spelled_area text ≡ Is a → IsRectangle a }
+    ensures references { (text : List ℕ) (r : Reference) → spelled_reference text ≡ Some r → IsValidReference r }
 {}
 
 /// The cells of an area are those that it covers, each once, in the order of cells.
@@ -70,11 +77,11 @@ pub fn opposite_move_gives_back()
 {}
 
 /// Shifts and moves keep the ends of references in order and in the sheet, and how they were spelled.
-pub fn references_stay_whole()
-    ensures inserted { (place count : ℕ) (r s : Reference) → IsWhole r
-        → reference_after_insertion place count r ≡ Some s → IsWhole s }
-    ensures deleted { (place count : ℕ) (r s : Reference) → 1 ≤ place → IsWhole r
-        → reference_after_deletion place count r ≡ Some s → IsWhole s }
-    ensures moved { (cols rows : ℤ) (r s : Reference) → IsWhole r
-        → moved_reference cols rows r ≡ Some s → IsWhole s }
+pub fn references_stay_valid()
+    ensures inserted { (place count : ℕ) (r s : Reference) → IsValidReference r
+        → reference_after_insertion place count r ≡ Some s → IsValidReference s }
+    ensures deleted { (place count : ℕ) (r s : Reference) → 1 ≤ place → IsValidReference r
+        → reference_after_deletion place count r ≡ Some s → IsValidReference s }
+    ensures moved { (cols rows : ℤ) (r s : Reference) → IsValidReference r
+        → moved_reference cols rows r ≡ Some s → IsValidReference s }
 {}

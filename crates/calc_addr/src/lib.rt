@@ -19,7 +19,8 @@ pub use bracketed::read_ref;
 pub use cell::{Area, Cell, LAST_COL, LAST_ROW, LAST_SHEET, Run};
 pub use laws::{
     areas_list_their_cells, cells_go_with_rows, cells_read_back, deletion_undoes_insertion,
-    opposite_move_gives_back, references_read_back, references_stay_whole,
+    opposite_move_gives_back, references_read_back, references_stay_valid,
+    spelled_words_lie_inside,
 };
 pub use moves::move_ref;
 pub use read::{Spelled, read_area, read_cell, read_col, read_row};

@@ -41,7 +41,7 @@ fn moved_ends(ends: Ends, distance: i32, last: u32) -> Option<Ends>
 
 fn moved_cols(r: Ref, distance: i32) -> Option<Ends>
     ensures ends { result ≡ moved_cols r.span distance (cols_of r) }
-    ensures inside { IfSome result (AreEnds 1024) }
+    ensures inside { IfSome result (AreEnds LAST_COL) }
 {
     let ends = cols_of(r);
     match r.span {
@@ -52,7 +52,7 @@ fn moved_cols(r: Ref, distance: i32) -> Option<Ends>
 
 fn moved_rows(r: Ref, distance: i32) -> Option<Ends>
     ensures ends { result ≡ moved_rows r.span distance (rows_of r) }
-    ensures inside { IfSome result (AreEnds 1048576) }
+    ensures inside { IfSome result (AreEnds LAST_ROW) }
 {
     let ends = rows_of(r);
     match r.span {
@@ -72,8 +72,8 @@ pub fn move_ref(r: Ref, cols: i32, rows: i32) -> Option<Ref>
 }
 
 fn with_ends(r: Ref, cols: Ends, rows: Ends) -> Ref
-    requires cols { AreEnds 1024 cols }
-    requires rows { AreEnds 1048576 rows }
+    requires cols { AreEnds LAST_COL cols }
+    requires rows { AreEnds LAST_ROW rows }
     requires span { IsSpanned r.span r.area r.marks
         → IsSpanned r.span (with_ends r cols rows).area (with_ends r cols rows).marks }
     ensures { result ≡ with_ends r cols rows }
