@@ -32,10 +32,14 @@ numbered true v n e =
     inside (nat_le 1 v && nat_le v 16) v n (λ h. leb-true v 16 (and_parts (nat_le 1 v) (nat_le v 16) h).1) e
 numbered false v n e = cc
 
+lettered : (b form : Bool) (v n : ℕ) → cond b (cond form (from_zero (up_to 16 v)) Not) Not ≡ Is n → n ≤ 15
+lettered true form v n e = numbered form v n e
+lettered false form v n e = cc
+
 pub sheet_of-inside : (word : List ℕ) (n : ℕ) → sheet_of word ≡ Is n → n ≤ 15
 sheet_of-inside word n e =
     let digits = drop 5 word in
-    numbered (starts_with nat_eq (map to_ascii_lowercase word) (codes "sheet") && are_digits_or_zero digits) (digits_value 10 digits) n e
+    lettered (starts_with nat_eq (map to_ascii_lowercase word) (codes "sheet")) (are_digits_or_zero digits) (digits_value 10 digits) n e
 
 part_inside : (b : Bool) (x : Spelled ℕ) (n : ℕ) → (x ≡ Is n → n ≤ 15) → cond b x (Is 0) ≡ Is n → n ≤ 15
 part_inside true x n h e = h e
