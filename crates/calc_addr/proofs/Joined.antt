@@ -27,10 +27,19 @@ inside true v n h e =
     omega (arith, h refl)
 inside false v n h e = cc
 
-sheet_of_inside : (b : Bool) (v n : ℕ) → cond b (from_zero (up_to 16 v)) Not ≡ Is n → n ≤ 15
-sheet_of_inside true v n e =
+numbered : (b : Bool) (v n : ℕ) → cond b (from_zero (up_to 16 v)) Not ≡ Is n → n ≤ 15
+numbered true v n e =
     inside (nat_le 1 v && nat_le v 16) v n (λ h. leb-true v 16 (and_parts (nat_le 1 v) (nat_le v 16) h).1) e
-sheet_of_inside false v n e = cc
+numbered false v n e = cc
+
+lettered : (b form : Bool) (v n : ℕ) → cond b (cond form (from_zero (up_to 16 v)) Not) Not ≡ Is n → n ≤ 15
+lettered true form v n e = numbered form v n e
+lettered false form v n e = cc
+
+pub sheet_of-inside : (word : List ℕ) (n : ℕ) → sheet_of word ≡ Is n → n ≤ 15
+sheet_of-inside word n e =
+    let digits = drop 5 word in
+    lettered (starts_with nat_eq (map to_ascii_lowercase word) (codes "sheet")) (are_digits_or_zero digits) (digits_value 10 digits) n e
 
 part_inside : (b : Bool) (x : Spelled ℕ) (n : ℕ) → (x ≡ Is n → n ≤ 15) → cond b x (Is 0) ≡ Is n → n ≤ 15
 part_inside true x n h e = h e
@@ -41,7 +50,4 @@ part_inside false x n h e =
 pub sheet_part_inside : (text : List ℕ) (n : ℕ) → sheet_part text ≡ Is n → n ≤ 15
 sheet_part_inside text n e =
     let word = undollared (before_first is_point text) in
-    let digits = drop 5 word in
-    part_inside (list_any is_point text) (sheet_of word) n
-    (sheet_of_inside (starts_with nat_eq (map to_ascii_lowercase word) (codes "sheet") && are_digits_or_zero digits) (digits_value 10 digits) n)
-    e
+    part_inside (list_any is_point text) (sheet_of word) n (sheet_of-inside word n) e

@@ -1,10 +1,10 @@
 -- What a printed reference is read as.
 use Rattle.std.proofs.Common.{◌≡◌, ℕ, ◌+◌, ◌≤◌, Bool, true, false, cond, Option, Some, None, List, [], ◌∷◌, ◌++◌, length, codes, decimal, refl, sym, ap, ◌∙◌, subst, arith, append_assoc, take}
-use Rattle.std.specs.Prelude.{◌==◌, nat_le, option_map, unwrap_or, is_some}
+use Rattle.std.specs.Prelude.{◌==◌, option_map, unwrap_or, is_some}
 use Rattle.std.specs.List.{list_any, prefix_len, after_first}
 use Rattle.std.specs.Option.{option_and_then, option_or}
 use Rattle.std.specs.Char.{is_ascii_alphabetic, is_ascii_digit}
-use Rattle.std.proofs.lemmas.Bool.{and_parts, and_left, or_from, cond-true, cond-false, ne_eqb, le-leb}
+use Rattle.std.proofs.lemmas.Bool.{and_parts, and_left, or_from, cond-true, cond-false, ne_eqb}
 use Rattle.std.proofs.lemmas.Bool.Decides.{nat_tests}
 use Rattle.std.proofs.lemmas.Fmt.{digits_decimal}
 use Rattle.std.proofs.lemmas.List.{append-nil}
@@ -21,6 +21,7 @@ use Rattle.calc_addr.specs.declared.ends.Ends.{Ends}
 use Rattle.calc_addr.specs.declared.read.Spelled.TheVariants.{Not}
 use Rattle.calc_addr.specs.declared.reference.Span.{Span}
 use Rattle.calc_addr.specs.declared.reference.Span.TheVariants as span
+use Rattle.calc_addr.proofs.EndsInOrder.{in_order-up}
 use Rattle.calc_addr.proofs.RoundTrip.{are_digits-decimal, are_letters-column_letters, column_of-column_letters, column_part-append, cut_at_first, digit_no_dollar, digit_no_letter, digit_no_point, digits_test, letter_no_dollar, list_all-are_digits, list_all-are_letters, list_any-none, no_letter_first, row_of-decimal, row_part-append, sheet_of-sheet_word, undollared-digits, undollared-letters, undollared-with_dollar}
 
 -- a coordinate's mark and number
@@ -141,9 +142,6 @@ row_no_column marked ds digits =
     ∙ ap (λ b. end_of (with_dollar marked ds) (inside (cond b (up_to 1024 (column_number ds)) Not))) (digits_no_letters ds digits)
 
 -- the ends of each kind of reference
-in_order-ordered : (a b : End) → a.at ≤ b.at → in_order a b ≡ record { first = a; last = b }
-in_order-ordered a b h = cond-true (nat_le a.at b.at) _ _ (le-leb a.at b.at h)
-
 one_spelled : (sheet : Option ℕ) (cols rows : Ends) → AreEnds 1024 cols → AreEnds 1048576 rows → IsOne (reference_of sheet span.One cols rows).area (reference_of sheet span.One cols rows).marks → spelled_span sheet (printed_span span.One cols rows) ≡ Some (reference_of sheet span.One cols rows)
 one_spelled sheet cols rows across down is =
     let text = corner_text cols.first rows.first in
@@ -152,9 +150,9 @@ one_spelled sheet cols rows across down is =
     let last_col : cols.first ≡ cols.last = λ i. record { at = is.one_col i; marked = is.col_marks i } in
     let last_row : rows.first ≡ rows.last = λ i. record { at = is.one_row i; marked = is.row_marks i } in
     let both_cols : in_order cols.first cols.first ≡ cols =
-    in_order-ordered cols.first cols.first (omega arith) ∙ ap (λ e. let ends : Ends = record { first = cols.first; last = e } in ends) last_col in
+    in_order-up cols.first cols.first (omega arith) ∙ ap (λ e. let ends : Ends = record { first = cols.first; last = e } in ends) last_col in
     let both_rows : in_order rows.first rows.first ≡ rows =
-    in_order-ordered rows.first rows.first (omega arith) ∙ ap (λ e. let ends : Ends = record { first = rows.first; last = e } in ends) last_row in
+    in_order-up rows.first rows.first (omega arith) ∙ ap (λ e. let ends : Ends = record { first = rows.first; last = e } in ends) last_row in
     cond-false (list_any is_colon text) _ _ (corner_no_colon cols.first rows.first across.from (omega (arith, down.ordered, down.to)))
     ∙ ap (option_map make) ends
     ∙ ap (λ x. Some (reference_of sheet span.One x (in_order rows.first rows.first))) both_cols
@@ -170,8 +168,8 @@ cells_spelled sheet cols rows across down =
     let cells : two_cells sheet first last ≡ Some (reference_of sheet span.Cells cols rows) =
     ap (λ x. together make x (corner_ends last)) first_ends
     ∙ ap (λ x. together make (Some (cols.first, rows.first)) x) last_ends
-    ∙ ap (λ x. Some (reference_of sheet span.Cells x (in_order rows.first rows.last))) (in_order-ordered cols.first cols.last across.ordered)
-    ∙ ap (λ x. Some (reference_of sheet span.Cells cols x)) (in_order-ordered rows.first rows.last down.ordered)
+    ∙ ap (λ x. Some (reference_of sheet span.Cells x (in_order rows.first rows.last))) (in_order-up cols.first cols.last across.ordered)
+    ∙ ap (λ x. Some (reference_of sheet span.Cells cols x)) (in_order-up rows.first rows.last down.ordered)
     in
     spelled_span-two sheet first last (reference_of sheet span.Cells cols rows)
     (corner_no_colon cols.first rows.first across.from (omega (arith, down.ordered, down.to)))
@@ -189,7 +187,7 @@ columns_spelled sheet cols across rows =
     let columns : two_columns sheet first last ≡ Some (reference_of sheet span.Columns cols (whole 1048576)) =
     ap (λ x. together make x (column_end last)) first_end
     ∙ ap (λ x. together make (Some cols.first) x) last_end
-    ∙ ap (λ x. Some (reference_of sheet span.Columns x (whole 1048576))) (in_order-ordered cols.first cols.last across.ordered)
+    ∙ ap (λ x. Some (reference_of sheet span.Columns x (whole 1048576))) (in_order-up cols.first cols.last across.ordered)
     in
     spelled_span-two sheet first last (reference_of sheet span.Columns cols (whole 1048576)) (column_no_colon cols.first across.from)
     (ap (λ x. option_or x (option_or (two_columns sheet first last) (two_rows sheet first last))) no_cells
@@ -212,7 +210,7 @@ rows_spelled sheet rows down cols =
     let down_rows : two_rows sheet first last ≡ Some (reference_of sheet span.Rows (whole 1024) rows) =
     ap (λ x. together make x (row_end last)) first_end
     ∙ ap (λ x. together make (Some rows.first) x) last_end
-    ∙ ap (λ x. Some (reference_of sheet span.Rows (whole 1024) x)) (in_order-ordered rows.first rows.last down.ordered)
+    ∙ ap (λ x. Some (reference_of sheet span.Rows (whole 1024) x)) (in_order-up rows.first rows.last down.ordered)
     in
     spelled_span-two sheet first last (reference_of sheet span.Rows (whole 1024) rows) (row_no_colon rows.first (omega (arith, down.ordered, down.to)))
     (ap (λ x. option_or x (option_or (two_columns sheet first last) (two_rows sheet first last))) no_cells

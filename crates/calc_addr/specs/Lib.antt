@@ -3,5 +3,7 @@ pub mod Bracketed
 pub mod Cells
 pub mod Ends
 pub mod Letters
+pub mod Moves
 pub mod References
+pub mod Shifts
 pub mod Spelling

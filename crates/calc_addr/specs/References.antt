@@ -1,6 +1,6 @@
 -- References of formulas: an area, how it was spelled, and which parts were marked.
 use Rattle.std.specs.Prelude.{◌≡◌, false, if◌then◌else◌}
-use Rattle.calc_addr.specs.Cells.{Rectangle, Place}
+use Rattle.calc_addr.specs.Cells.{Rectangle, IsRectangle, Place}
 use Rattle.calc_addr.specs.declared.reference.Span.{Span}
 use Rattle.calc_addr.specs.declared.reference.Span.TheVariants.{One, Cells, Columns, Rows}
 use Rattle.calc_addr.specs.declared.reference.Marks.{Marks}
@@ -46,3 +46,8 @@ pub record IsReference (r : Reference) : Type 0 where
 -- the reference's area for a formula at home
 abbrev pub here : Reference → Place → Rectangle
 here r home = if r.marks.sheet then r.area else record r.area { sheet = home.sheet }
+
+-- a reference that a formula can have
+pub record IsValidReference (r : Reference) : Type 0 where
+  pub lies : IsRectangle r.area
+  pub spelled : IsReference r

@@ -94,12 +94,13 @@ from_zero (Is n) = Is (n - 1)
 from_zero Outside = Outside
 from_zero Not = Not
 
+abbrev pub sheet_number : List ℕ → Spelled ℕ
+sheet_number digits = if are_digits_or_zero digits then from_zero (up_to 16 (digits_value 10 digits)) else Not
+
 -- the letters `sheet` in either case, then a number
 abbrev pub sheet_of : List ℕ → Spelled ℕ
 sheet_of word =
-    let digits = drop 5 word in
-    if starts_with nat_eq (map to_ascii_lowercase word) (codes "sheet") && are_digits_or_zero digits
-    then from_zero (up_to 16 (digits_value 10 digits)) else Not
+    if starts_with nat_eq (map to_ascii_lowercase word) (codes "sheet") then sheet_number (drop 5 word) else Not
 
 abbrev pub is_point : ℕ → Bool
 is_point c = c == 46

@@ -43,7 +43,7 @@ fn after_point(text: &[u8]) -> Option<&[u8]>
 
 fn read_column_end(text: &[u8]) -> Option<End>
     ensures end { result ≡ column_end text.now }
-    ensures inside { IfSome result (λ end. (1 ≤ end.at) × (end.at ≤ 1024)) }
+    ensures inside { IfSome result (λ end. (1 ≤ end.at) × (end.at ≤ LAST_COL)) }
 {
     match read_column(undollared(text)) {
         Spelled::Is(col) => Some(End {
@@ -56,7 +56,7 @@ fn read_column_end(text: &[u8]) -> Option<End>
 
 fn read_row_end(text: &[u8]) -> Option<End>
     ensures end { result ≡ row_end text.now }
-    ensures inside { IfSome result (λ end. (1 ≤ end.at) × (end.at ≤ 1048576)) }
+    ensures inside { IfSome result (λ end. (1 ≤ end.at) × (end.at ≤ LAST_ROW)) }
 {
     match read_row_number(undollared(text)) {
         Spelled::Is(row) => Some(End {
@@ -75,8 +75,8 @@ fn is_marked(text: &[u8]) -> bool
 
 fn read_corner(text: &[u8]) -> Option<(End, End)>
     ensures ends { result ≡ corner_ends text.now }
-    ensures inside { IfSome result (λ corner. (1 ≤ corner.0.at) × (corner.0.at ≤ 1024) × (1 ≤ corner.1.at)
-        × (corner.1.at ≤ 1048576)) }
+    ensures inside { IfSome result (λ corner. (1 ≤ corner.0.at) × (corner.0.at ≤ LAST_COL) × (1 ≤ corner.1.at)
+        × (corner.1.at ≤ LAST_ROW)) }
 {
     let (col, row) = cell_parts(text);
     Some((read_column_end(col)?, read_row_end(row)?))
@@ -84,8 +84,8 @@ fn read_corner(text: &[u8]) -> Option<(End, End)>
 
 fn reference(sheet: Option<u8>, span: Span, cols: Ends, rows: Ends) -> Ref
     requires sheet { (n : ℕ) → sheet ≡ Some n → n ≤ 15 }
-    requires cols { AreEnds 1024 cols }
-    requires rows { AreEnds 1048576 rows }
+    requires cols { AreEnds LAST_COL cols }
+    requires rows { AreEnds LAST_ROW rows }
     requires span { IsSpanned span (reference_of sheet span cols rows).area (reference_of sheet span cols rows).marks }
     ensures { result ≡ reference_of sheet span cols rows }
 {

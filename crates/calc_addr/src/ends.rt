@@ -1,6 +1,7 @@
 ghost use Rattle.calc_addr.specs.Ends.{AreEnds, cols_of, in_order, rows_of, whole};
 ghost use Rattle.std.specs.Prelude.{false, ◌≡◌};
 
+use crate::cell::{LAST_COL, LAST_ROW};
 use crate::reference::Ref;
 
 /// One coordinate of a reference, and whether a dollar sign marks it.
@@ -55,7 +56,7 @@ pub(crate) fn in_order(first: End, last: End) -> Ends
 /// The ends of a reference on the axis of columns.
 pub(crate) fn cols_of(r: Ref) -> Ends
     ensures ends { result ≡ cols_of r }
-    ensures inside { AreEnds 1024 result }
+    ensures inside { AreEnds LAST_COL result }
 {
     Ends {
         first: End {
@@ -72,7 +73,7 @@ pub(crate) fn cols_of(r: Ref) -> Ends
 /// The ends of a reference on the axis of rows.
 pub(crate) fn rows_of(r: Ref) -> Ends
     ensures ends { result ≡ rows_of r }
-    ensures inside { AreEnds 1048576 result }
+    ensures inside { AreEnds LAST_ROW result }
 {
     Ends {
         first: End {

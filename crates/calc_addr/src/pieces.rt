@@ -1,5 +1,5 @@
 ghost use Rattle.calc_addr.specs.Letters.{column_number};
-ghost use Rattle.calc_addr.specs.Spelling.{are_digits, are_digits_or_zero, are_letters, column_len, column_of, column_part, row_of, row_part, sheet_of, undollared};
+ghost use Rattle.calc_addr.specs.Spelling.{are_digits, are_digits_or_zero, are_letters, column_len, column_of, column_part, row_of, row_part, sheet_number, sheet_of, undollared};
 ghost use Rattle.std.specs.Char.{is_ascii_alphabetic, to_ascii_lowercase};
 ghost use Rattle.std.specs.List.{after_first, before_first, list_any, position, prefix_len, starts_with};
 ghost use Rattle.std.specs.Prelude.{MatchOption, codes, false, length, if◌then◌else◌, map, min, nat_eq, true, ◌-◌, ◌==◌, ◌^◌, ◌≡◌, ◌≤◌};
@@ -101,10 +101,17 @@ fn is_sheet_word(word: &[u8]) -> bool
 pub(crate) fn read_sheet(word: &[u8]) -> Spelled<u8>
     ensures { result ≡ sheet_of word.now }
 {
-    if !is_sheet_word(word) {
-        return Spelled::Not;
+    if is_sheet_word(word) {
+        sheet_number(&word[5..])
+    } else {
+        Spelled::Not
     }
-    match number_or_zero(&word[5..]) {
+}
+
+fn sheet_number(digits: &[u8]) -> Spelled<u8>
+    ensures { result ≡ sheet_number digits.now }
+{
+    match number_or_zero(digits) {
         None => Spelled::Not,
         Some(number @ 1..=16) => Spelled::Is(number as u8 - 1),
         Some(_) => Spelled::Outside,

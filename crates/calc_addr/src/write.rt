@@ -4,7 +4,7 @@ ghost use Rattle.calc_addr.specs.Ends.{AreEnds};
 ghost use Rattle.calc_addr.specs.Letters.{column_letters};
 ghost use Rattle.std.specs.Prelude.{[], codes, decimal, length, ◌*◌, ◌++◌, ◌+◌, ◌<◌, ◌^◌, ◌∷◌, ◌≡◌, ◌≤◌};
 
-use crate::cell::{Cell, Run};
+use crate::cell::{Cell, LAST_COL, LAST_ROW, Run};
 use crate::ends::{End, Ends, cols_of, rows_of};
 use crate::reference::{Ref, Span};
 use std::marker::Model;
@@ -36,7 +36,7 @@ impl AddrText {
         }
     }
 
-    /// The bytes of the text, all of them ASCII.
+    /// The bytes of the text.
     pub fn bytes(&self) -> &[u8]
         ensures value { result.now ≡ self.now }
         ensures short { length result.now ≤ 40 }
@@ -73,7 +73,7 @@ impl AddrText {
 
     fn push_letters(&mut self, col: u16)
         requires from { 1 ≤ col }
-        requires to { col ≤ 1024 }
+        requires to { col ≤ LAST_COL }
         requires room { length self.old + length (column_letters col) ≤ 40 }
         ensures { self.new ≡ self.old ++ column_letters col }
     {
@@ -95,7 +95,7 @@ impl AddrText {
 
     fn push_column(&mut self, col: End)
         requires from { 1 ≤ col.at }
-        requires to { col.at ≤ 1024 }
+        requires to { col.at ≤ LAST_COL }
         requires room { length self.old ≤ 36 }
         ensures text { self.new ≡ self.old ++ column_text col }
         ensures room { length self.new ≤ length self.old + 4 }
@@ -107,7 +107,7 @@ impl AddrText {
     }
 
     fn push_row(&mut self, row: End)
-        requires to { row.at ≤ 1048576 }
+        requires to { row.at ≤ LAST_ROW }
         requires room { length self.old ≤ 32 }
         ensures text { self.new ≡ self.old ++ row_text row }
         ensures room { length self.new ≤ length self.old + 8 }
@@ -120,8 +120,8 @@ impl AddrText {
 
     fn push_corner(&mut self, col: End, row: End)
         requires col_from { 1 ≤ col.at }
-        requires col_to { col.at ≤ 1024 }
-        requires row_to { row.at ≤ 1048576 }
+        requires col_to { col.at ≤ LAST_COL }
+        requires row_to { row.at ≤ LAST_ROW }
         requires room { length self.old ≤ 28 }
         ensures text { self.new ≡ self.old ++ corner_text col row }
         ensures room { length self.new ≤ length self.old + 12 }
@@ -131,8 +131,8 @@ impl AddrText {
     }
 
     fn push_span(&mut self, span: Span, cols: Ends, rows: Ends)
-        requires cols { AreEnds 1024 cols }
-        requires rows { AreEnds 1048576 rows }
+        requires cols { AreEnds LAST_COL cols }
+        requires rows { AreEnds LAST_ROW rows }
         requires room { length self.old ≤ 14 }
         ensures { self.new ≡ self.old ++ printed_span span cols rows }
     {
