@@ -1,3 +1,5 @@
 pub mod Cutting
 pub mod SumTexts
 pub mod Spelling
+pub mod SpelledPlaces
+pub mod SumLaws

@@ -12,7 +12,8 @@ use std::alloc::Global;
 /// The most bytes that a field may have and be kept.
 const MAX_LEN: usize = 65_535;
 
-/// What a cell holds whose field is this text. Linear in the text.
+/// What a cell holds whose field is this text. It fails only where memory is refused, and takes none
+/// but for texts and formulas. Linear in the text.
 pub fn read_field(alloc: Global, field: &[u8]) -> Result<Content, NoMemory>
     requires { IsUtf8 field.now }
     ensures { IfOk result (λ content. content ≡ field_of field.now) }

@@ -1,8 +1,9 @@
 ghost use Rattle.calc_model.specs.Formulas.{cell_of, cell_reference, formula_of, is_closing, sum_of_cells};
-ghost use Rattle.formula_reader.specs.Sums.{HasNoClosing, IsCut, IsSumText};
+ghost use Rattle.calc_model.specs.declared.tree.Tree.{Tree};
+ghost use Rattle.formula_reader.specs.Sums.{HasNoClosing, IsCut, IsSumText, SpellsSum};
 ghost use Rattle.std.specs.List.{position};
 ghost use Rattle.std.specs.Option.{option_map};
-ghost use Rattle.std.specs.Prelude.{IfOk, IfSome, List, MatchOption, ℕ, ◌≡◌};
+ghost use Rattle.std.specs.Prelude.{IfOk, IfSome, List, MatchOption, ℕ, ◌↔◌, ◌≡◌};
 
 use calc_addr::{Area, Cell, Marks, NoMemory, Ref, Span, Spelled, read_cell, write_cell};
 use calc_model::{Op, Tree};
@@ -19,6 +20,14 @@ pub(crate) fn read_formula(alloc: Global, text: &[u8]) -> Result<Option<Tree>, N
         None => Ok(None),
     }
 }
+
+/// The formulas are exactly the sums of two cells of the first sheet, each with its printed address,
+/// and a sum has one text.
+pub fn sums_are_spelled_once()
+    ensures spelled { (text : List ℕ) → (tree : Tree) → (formula_of text ≡ Some tree) ↔ SpellsSum text tree }
+    ensures once { (first second : List ℕ) → (tree : Tree)
+        → formula_of first ≡ Some tree → formula_of second ≡ Some tree → first ≡ second }
+{}
 
 /// The two cells of a text that spells their sum.
 fn read_cells(text: &[u8]) -> Option<(Cell, Cell)>

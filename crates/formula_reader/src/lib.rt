@@ -6,3 +6,4 @@ mod field;
 mod formula;
 
 pub use field::read_field;
+pub use formula::sums_are_spelled_once;
