@@ -1,2 +1,4 @@
 pub mod Joining
+pub mod LineCounts
 pub mod Pieces
+pub mod Progress

@@ -1,4 +1,4 @@
 pub mod Records
 pub mod Writes
 pub mod Inputs
-pub mod BookForm
+pub mod Replies

@@ -2,5 +2,7 @@
 #![tactic(auto)]
 
 mod input;
+mod output;
 mod print;
+mod reply;
 mod write;
