@@ -19,7 +19,8 @@ use Rattle.calc_model.specs.declared.tree.Tree.TheOpen.{Tree-F}
 use Rattle.calc_model.specs.declared.tree.Tree.TheVariants as t
 use Rattle.calc_model.proofs.TreeFolds.{at-Binary, at-Ref}
 use Rattle.formula_reader.specs.Sums.{IsSumText, SpellsSum}
-use Rattle.formula_reader.proofs.SpelledPlaces.{address-no_closing, spelled_cell-inside}
+use Rattle.calc_addr.proofs.SpelledInside.{spelled_cell-IsPlace}
+use Rattle.formula_reader.proofs.SpelledPlaces.{address-no_closing}
 use Rattle.formula_reader.proofs.Spelling.{formula_of-sum, sum_by_words}
 
 -- the word is the printed address of the place, on the first sheet
@@ -33,7 +34,7 @@ is_printed word (Is q) p e h =
     let parts = cond_some ((q.sheet == 0) && bytes_eq word (address q)) q p h in
     let tests = and_parts (q.sheet == 0) (bytes_eq word (address q)) parts.0 in
     subst (IsPrinted word) parts.1 record {
-      is_inside = spelled_cell-inside word q e;
+      is_inside = spelled_cell-IsPlace word q e;
       on_first = eqb-true q.sheet 0 tests.0;
       word_is = (bytes_eq-Decides word (address q)).0 tests.1;
     }
