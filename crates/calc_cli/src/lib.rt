@@ -1,8 +1,12 @@
 //! The command: a book and a script in, the output of the script's lines out.
 #![tactic(auto)]
 
+mod calculate;
 mod input;
+mod inputs;
 mod output;
 mod print;
 mod reply;
+mod status;
+mod words;
 mod write;

@@ -1,0 +1,42 @@
+ghost use Rattle.std.specs.Prelude.{◌≡◌, ◌≤◌, length, Some, IfOk, IsErrOf, IsTrue, IsSome, IfSome, List, ℕ};
+ghost use Rattle.calc_cli.specs.Endings.{IsTaken};
+ghost use Rattle.calc_io.specs.Desk.{told_book, IsUnknown};
+ghost use Rattle.calc_io.specs.Faults.{Rose};
+
+use std::alloc::Global;
+
+use calc_io::Desk;
+use calc_model::Text;
+use plain_evaluator::Cells;
+
+use crate::input::{Input, ReadFault, read_all};
+
+/// The most bytes that a script may have.
+const MOST_SCRIPT_BYTES: usize = 16_777_216;
+
+/// What the desk gave.
+#[derive(Drop)]
+pub(crate) enum Inputs {
+    /// The book's cells and the script.
+    Read(Cells, Vec<u8>),
+    /// The book can't be read so far.
+    NotBuilt,
+    /// The script is too long.
+    TooLong,
+}
+
+/// The script, unless it is too long.
+fn read_script<D: Desk>(alloc: Global, desk: &mut D) -> Result<Option<Vec<u8>>, ReadFault>
+    ensures told { (script : List ℕ) → D.script_left desk.old ≡ Some script → IfOk result (λ taken. IsTaken taken script) }
+    ensures short { IfOk result (λ taken. IfSome taken (λ bytes. length bytes.items ≤ 16777216)) }
+
+    ensures later { D.faults desk.old ≤ D.faults desk.new }
+    ensures cause { IsErrOf result ReadFault.Desk → Rose (D.faults desk.old) (D.faults desk.new) }
+    ensures no_fault { IsTrue (D.calm desk.old) → D.faults desk.new ≡ D.faults desk.old }
+{
+    let script = read_all(alloc, desk, Input::Script, MOST_SCRIPT_BYTES)?;
+    if script.len() > MOST_SCRIPT_BYTES {
+        return Ok(None);
+    }
+    Ok(Some(script))
+}
