@@ -4,9 +4,8 @@ ghost use Rattle.std.specs.List.{list_all};
 ghost use Rattle.calc_book.specs.BookForm.{fields_in, begins_number, count_digits, is_plain_byte, is_plain_end, is_plain_unsigned, is_plain_number, is_plain_field, is_plain_record, is_plain_book};
 ghost use Rattle.calc_script.specs.Lines.{lines_of};
 
-use calc_script::lines;
-
 use crate::splitting::fields_of;
+use calc_script::lines;
 
 /// The most bytes and fields that a book and a record may have so far.
 pub(crate) const MOST_BYTES: usize = 65_535;
@@ -31,25 +30,25 @@ fn are_plain_bytes(bytes: &[u8]) -> bool
 fn are_plain_records(bytes: &[u8]) -> bool
     ensures { result ≡ list_all is_plain_record (lines_of bytes.now) }
 {
-    for record in lines(bytes) {
-        if !is_plain_record(record) {
+    for line in lines(bytes) {
+        if !is_plain_record(line) {
             return false;
         }
     }
     true
 }
 
-fn is_plain_record(record: &[u8]) -> bool
-    ensures { result ≡ is_plain_record record.now }
+fn is_plain_record(text: &[u8]) -> bool
+    ensures { result ≡ is_plain_record text.now }
 {
-    !record.is_empty() && has_few_fields(record) && are_plain_fields(record)
+    !text.is_empty() && has_few_fields(text) && are_plain_fields(text)
 }
 
-fn has_few_fields(record: &[u8]) -> bool
-    ensures { result ≡ nat_le (length (fields_in record.now)) 1024 }
+fn has_few_fields(text: &[u8]) -> bool
+    ensures { result ≡ nat_le (length (fields_in text.now)) 1024 }
 {
     let mut count = 0;
-    for _field in fields_of(record) {
+    for _field in fields_of(text) {
         if count == MOST_FIELDS {
             return false;
         }
@@ -58,15 +57,21 @@ fn has_few_fields(record: &[u8]) -> bool
     true
 }
 
-fn are_plain_fields(record: &[u8]) -> bool
-    ensures { result ≡ list_all is_plain_field (fields_in record.now) }
+fn are_plain_fields(text: &[u8]) -> bool
+    ensures { result ≡ list_all is_plain_field (fields_in text.now) }
 {
-    for field in fields_of(record) {
-        if begins_number(field) && !is_plain_number(field) {
+    for field in fields_of(text) {
+        if !is_plain_field(field) {
             return false;
         }
     }
     true
+}
+
+fn is_plain_field(field: &[u8]) -> bool
+    ensures { result ≡ is_plain_field field.now }
+{
+    !begins_number(field) || is_plain_number(field)
 }
 
 /// Whether a field begins as a number does.

@@ -21,10 +21,10 @@ impl<'a> Model for RecordFields<'a> {
 }
 
 /// The fields of a record, which are separated by commas.
-pub(crate) fn fields_of(record: &[u8]) -> RecordFields<'_>
-    ensures { result ≡ fields_in record.now }
+pub(crate) fn fields_of(text: &[u8]) -> RecordFields<'_>
+    ensures { result ≡ fields_in text.now }
 {
-    RecordFields { rest: Some(record) }
+    RecordFields { rest: Some(text) }
 }
 
 impl<'a> Iterator for RecordFields<'a> {
