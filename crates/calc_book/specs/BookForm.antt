@@ -4,13 +4,13 @@
 -- a quote, a carriage return or a byte past ASCII, an empty line, a record of more than 1,024 fields, or
 -- a field that begins as a number and isn't a plain one: an optional sign, 1 to 18 digits and, if need be,
 -- a point with 1 to 9 digits.
-use Rattle.std.specs.Prelude.{ℕ, ◌+◌, ◌==◌, ◌&&◌, ◌||◌, not, nat_le, nat_lt, Bool, true, false, List, [], ◌∷◌, ◌++◌, length, drop, Option, Some, None, if◌then◌else◌}
+use Rattle.std.specs.Prelude.{ℕ, ◌+◌, ◌==◌, ◌&&◌, ◌||◌, not, nat_le, nat_lt, Bool, true, false, List, [], ◌∷◌, length, drop, Option, Some, None, if◌then◌else◌}
 use denote.Ref.{Bor}
 use Rattle.std.specs.List.{list_all, prefix_len, slice_split}
 use Rattle.std.specs.Char.{is_ascii_digit}
 use Rattle.calc_addr.specs.Cells.{Place}
 use Rattle.calc_model.specs.declared.content.Content.{Content}
-use Rattle.calc_model.specs.Books.{Book, with_content}
+use Rattle.calc_model.specs.Books.{with_content}
 use Rattle.calc_model.specs.Fields.{field_of}
 use Rattle.calc_script.specs.Lines.{lines_of}
 
