@@ -1,4 +1,6 @@
 pub mod Joining
-pub mod LineCounts
+pub mod Ended
+pub mod Limits
 pub mod Pieces
 pub mod Progress
+pub mod SameValues

@@ -1,10 +1,12 @@
 ghost use Rattle.std.specs.Prelude.{◌≡◌, ◌≤◌, length, Some, IfOk, IsErrOf, IsTrue, IsSome, IfSome, List, ℕ};
-ghost use Rattle.calc_cli.specs.Endings.{IsTaken};
+ghost use Rattle.calc_cli.specs.Endings.{IsTaken, IsLoaded};
 ghost use Rattle.calc_io.specs.Desk.{told_book, IsUnknown};
 ghost use Rattle.calc_io.specs.Faults.{Rose};
 
-use std::alloc::Global;
+use std::alloc::{AllocError, Global};
 
+use calc_addr::NoMemory;
+use calc_book::{BookFault, read_book};
 use calc_io::Desk;
 use calc_model::Text;
 use plain_evaluator::Cells;
@@ -23,6 +25,17 @@ pub(crate) enum Inputs {
     NotBuilt,
     /// The script is too long.
     TooLong,
+}
+
+/// The cells of a book's bytes, unless they have a form that can't be read so far.
+fn cells_of(alloc: Global, bytes: &[u8]) -> Result<Option<Cells>, NoMemory>
+    ensures { IfOk result (λ cells. IsLoaded cells bytes.now) }
+{
+    match read_book(alloc, bytes) {
+        Ok(cells) => Ok(Some(cells)),
+        Err(BookFault::NotBuilt) => Ok(None),
+        Err(BookFault::NoMemory) => Err(AllocError),
+    }
 }
 
 /// The script, unless it is too long.

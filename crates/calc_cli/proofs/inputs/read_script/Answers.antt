@@ -1,14 +1,18 @@
-use Rattle.std.proofs.Common.{rules, ◌≡◌, ◌≤◌, length, Some, IfOk, IsErrOf, IsTrue, IsSome, IfSome, List, ℕ, ◌+◌, ◌-◌, ◌*◌, ◌<◌, ◌/◌, ◌%◌, Bool, true, false, nat_eq, nat_lt, [], ◌∷◌, ◌++◌, slice_index_or, slice_set, bit_and, bit_or, Fits, w8, w32, w64, Bor, MutBor}
-use Rattle.calc_cli.specs.Endings.{IsTaken}
-use Rattle.calc_io.specs.Desk.{told_book, IsUnknown}
-use Rattle.calc_io.specs.Faults.{Rose}
+use Rattle.std.proofs.Common.{rules, ◌≤◌, ◌<◌, length}
+use Rattle.std.proofs.lemmas.Bool.{le-ltb}
+use Rattle.calc_cli.proofs.Limits.{longer, within, whole}
 use Rattle.calc_cli.proofs.inputs.read_script.Goals as goal
 
--- src/inputs.rt:39:9
 pub returns-then-len-gt-MOST_SCRIPT_BYTES-clause-told :
     goal.returns-then-len-gt-MOST_SCRIPT_BYTES-clause-told
-returns-then-len-gt-MOST_SCRIPT_BYTES-clause-told g c = ?
+returns-then-len-gt-MOST_SCRIPT_BYTES-clause-told g c =
+    λ script told.
+    let more : 16777216 < length c.in_ok-script.script.items = search rules in
+    longer 16777216 c.in_ok-script.script.items script (c.in_ok-script.ensures.bytes script told) more
 
--- src/inputs.rt:29:1
 pub returns-clause-told : goal.returns-clause-told
-returns-clause-told g c = ?
+returns-clause-told g c =
+    λ script told.
+    let few : length c.in_ok-script.script.items ≤ 16777216 = search rules in
+    let taken = c.in_ok-script.ensures.bytes script told in
+    (le-ltb 16777216 (length script) (within 16777216 c.in_ok-script.script.items script taken few), whole 16777216 c.in_ok-script.script.items script taken few)

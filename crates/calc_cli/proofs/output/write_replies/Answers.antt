@@ -6,7 +6,7 @@ use Rattle.calc_script.specs.Lines.{lines_of}
 use Rattle.plain_evaluator.specs.Plain.{book_of, results_of}
 use Rattle.calc_cli.specs.Replies.{reply, replies, has_refusal}
 use Rattle.calc_cli.specs.Writes.{GrowsWithin}
-use Rattle.calc_cli.proofs.LineCounts.{length-lines_of}
+use Rattle.calc_book.proofs.Parts.{few_lines}
 use Rattle.calc_cli.proofs.Pieces.{at_error}
 use Rattle.calc_cli.proofs.Progress.{IsWrittenTo, part_written, stopped_inside, room_for_part, room_behind_part}
 use Rattle.calc_cli.proofs.output.write_replies.Goals as goal
@@ -42,7 +42,7 @@ returns-in_err-refused-clause-no_fault g c =
 pub overflow_add-number : goal.overflow_add-number
 overflow_add-number g c =
     let count : c.loop-line.number + length (c.in-Some.line.now ∷ c.next.new.self) ≡ 1 + length (lines_of c.args.script.now) = subst (λ lines. c.loop-line.number + length lines ≡ 1 + length (lines_of c.args.script.now)) c.in-Some.ensures.steps c.loop-line.invariant.count in
-    omega (arith, count, length-lines_of c.args.script.now, c.requires)
+    omega (arith, count, few_lines c.args.script.now, c.requires)
 
 pub loop-line-preserved : goal.loop-line-preserved
 loop-line-preserved g c =

@@ -1,0 +1,35 @@
+-- How the inputs lead to the end of a run.
+use Rattle.std.proofs.Common.{rules, [], ◌≡◌, ℕ, ◌+◌, ◌≤◌, ◌<◌, Bool, true, false, not, ◌&&◌, cond, List, length, take, Option, None, Some, refl, sym, ap, subst, ◌∙◌, arith, nat_lt, nat_le, min}
+use Rattle.std.specs.Io.KnownBytes.{Appends, Keeps}
+use Rattle.std.proofs.KnownBytes.{Appends-nil}
+use Rattle.std.proofs.lemmas.List.{length-take, take_all}
+use Rattle.std.specs.declared.alloc.Global.{Global}
+use Rattle.calc_book.specs.BookForm.{Cells, is_plain_book, is_plain_byte, is_plain_record, book_cells}
+use Rattle.calc_cli.specs.Endings.{Ending, Ends, ending, answered, not_built, too_long}
+
+pub too_long_ends : (old : Option (List ℕ)) → Ends 7 old old too_long
+unfolding too_long
+too_long_ends old = record {
+    done = λ a b d. refl;
+    all = λ a b d. Appends-nil old;
+    prefix = ([], [], refl, Appends-nil old);
+    nothing = λ e. Appends-nil old;
+  }
+
+pub ends_not_built : (book script : List ℕ) → is_plain_book book ≡ false → not_built ≡ ending book script
+ends_not_built book script bad = ap (λ b. cond (not b) not_built (cond (nat_lt 16777216 (length script)) too_long (answered (book_cells book) script))) (sym bad)
+
+pub ends_too_long : (book script : List ℕ) → is_plain_book book ≡ true → nat_lt 16777216 (length script) ≡ true → too_long ≡ ending book script
+ends_too_long book script good long =
+    ap (λ b. cond b too_long (answered (book_cells book) script)) (sym long)
+    ∙ ap (λ b. cond (not b) not_built (cond (nat_lt 16777216 (length script)) too_long (answered (book_cells book) script))) (sym good)
+
+pub ends_answered : (book script taken : List ℕ) (cells : Cells) → is_plain_book book ≡ true → nat_lt 16777216 (length script) ≡ false → cells ≡ book_cells book → taken ≡ script → answered cells taken ≡ ending book script
+ends_answered book script taken cells good short cells_are taken_is =
+    ap (λ c. answered c taken) cells_are
+    ∙ ap (answered (book_cells book)) taken_is
+    ∙ ap (λ b. cond b too_long (answered (book_cells book) script)) (sym short)
+    ∙ ap (λ b. cond (not b) not_built (cond (nat_lt 16777216 (length script)) too_long (answered (book_cells book) script))) (sym good)
+
+pub script_kept : (old new : Option (List ℕ)) (script : List ℕ) → Keeps old new → old ≡ Some script → new ≡ Some script
+script_kept old new script kept told = search (rules, kept, told)
