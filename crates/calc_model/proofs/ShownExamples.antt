@@ -14,7 +14,7 @@ use Rattle.calc_model.specs.declared.content.Content.{Content}
 use Rattle.calc_model.specs.declared.content.Content.TheVariants.{Empty, Constant, Formula, Raw}
 use Rattle.calc_model.specs.declared.tree.Op.TheVariants.{Add}
 use Rattle.calc_model.specs.declared.tree.Tree.TheVariants as t
-use Rattle.calc_model.specs.Books.{Book, content_at, area_named, formula_count, with_content}
+use Rattle.calc_model.specs.Books.{Book, IsBook, content_at, area_named, formula_count, with_content}
 use Rattle.calc_model.specs.Eval.{top}
 use Rattle.calc_model.specs.Formulas.{cell_reference, sum_of_cells}
 use Rattle.calc_model.specs.Grounded.{all_cells, is_grounded, is_circular}
@@ -230,3 +230,58 @@ the_text_of_a_circle = ap text_of a_cell_that_reads_itself_is_circular
 
 the_text_of_a_sum_out_of_range : text_of (val row_at_the_limit (at 4)) ≡ codes "#OVER!"
 the_text_of_a_sum_out_of_range = ap text_of a_sum_past_the_largest_number_is_over
+
+-- all of these are books that can be: in order and within the limits
+the_row_of_sums_is_a_book : IsBook row_of_sums
+the_row_of_sums_is_a_book = record {
+  cells_in_order = refl;
+  none_empty = refl;
+  cells_in_limit = omega arith;
+  names_in_order = refl;
+  names_in_limit = omega arith;
+}
+
+the_circle_of_one_is_a_book : IsBook circle_of_one
+the_circle_of_one_is_a_book = record {
+  cells_in_order = refl;
+  none_empty = refl;
+  cells_in_limit = omega arith;
+  names_in_order = refl;
+  names_in_limit = omega arith;
+}
+
+the_circle_of_two_is_a_book : IsBook circle_of_two
+the_circle_of_two_is_a_book = record {
+  cells_in_order = refl;
+  none_empty = refl;
+  cells_in_limit = omega arith;
+  names_in_order = refl;
+  names_in_limit = omega arith;
+}
+
+the_row_with_a_gap_is_a_book : IsBook row_with_a_gap
+the_row_with_a_gap_is_a_book = record {
+  cells_in_order = refl;
+  none_empty = refl;
+  cells_in_limit = omega arith;
+  names_in_order = refl;
+  names_in_limit = omega arith;
+}
+
+the_row_of_errors_is_a_book : IsBook row_of_errors
+the_row_of_errors_is_a_book = record {
+  cells_in_order = refl;
+  none_empty = refl;
+  cells_in_limit = omega arith;
+  names_in_order = refl;
+  names_in_limit = omega arith;
+}
+
+the_row_at_the_limit_is_a_book : IsBook row_at_the_limit
+the_row_at_the_limit_is_a_book = record {
+  cells_in_order = refl;
+  none_empty = refl;
+  cells_in_limit = omega arith;
+  names_in_order = refl;
+  names_in_limit = omega arith;
+}
