@@ -10,3 +10,4 @@ pub mod Counting
 pub mod Readiness
 pub mod Building
 mod FieldExamples
+mod ShownExamples

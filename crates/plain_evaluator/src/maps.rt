@@ -31,7 +31,12 @@ pub(crate) fn result_of(results: &Results, cell: Cell) -> Option<&Value>
 
 /// Appends the printed text of what a cell shows by these results. Where memory is refused, `out` is
 /// as before.
-pub fn show_cell(cells: &Cells, results: &Results, cell: Cell, out: &mut Vec<u8>) -> Result<(), NoMemory>
+pub fn show_cell(
+    cells: &Cells,
+    results: &Results,
+    cell: Cell,
+    out: &mut Vec<u8>,
+) -> Result<(), NoMemory>
     ensures ok { OnOk result (out.new.items ≡ out.old.items ++ text_of (shown_by (book_of cells.now.entries) (results_of results.now.entries) cell)) }
     ensures err { OnErr result (out.new.items ≡ out.old.items) }
 {
