@@ -2,10 +2,8 @@
 -- isn't looked at. A script of more than 16,777,216 bytes isn't taken. Otherwise the script's lines are
 -- answered one after the other, each print with what the cells show that are evaluated alone from scratch,
 -- and the status says whether a line was refused.
-use Rattle.std.specs.Prelude.{◌≡◌, ℕ, Bool, not, nat_lt, List, [], length, codes, if◌then◌else◌, Option, None, Some, true, false, ◌<◌, ◌^◌, ⊤, Vec, BTreeMap}
+use Rattle.std.specs.Prelude.{◌≡◌, ℕ, Bool, not, nat_lt, List, [], length, codes, if◌then◌else◌, Option, None, Some, true, false, ◌<◌, ◌^◌, ⊤, Vec}
 use Rattle.std.specs.Io.KnownBytes.{Appends}
-use Rattle.calc_addr.specs.Cells.{Place}
-use Rattle.calc_model.specs.declared.content.Content.{Content}
 use Rattle.calc_book.specs.BookForm.{Cells, is_plain_book, book_cells}
 use Rattle.calc_model.specs.Val.{val}
 use Rattle.calc_script.specs.Lines.{lines_of}
@@ -65,6 +63,6 @@ IsTaken None script = nat_lt 16777216 (length script) ≡ true
 IsTaken (Some bytes) script = (nat_lt 16777216 (length script) ≡ false) × (bytes.items ≡ script)
 
 -- the cells that were read of a book, or none where it can't be read so far
-abbrev pub IsLoaded : Option (BTreeMap Place Content Global) → List ℕ → Type 0
+abbrev pub IsLoaded : Option Cells → List ℕ → Type 0
 IsLoaded None book = is_plain_book book ≡ false
-IsLoaded (Some cells) book = (is_plain_book book ≡ true) × (cells.entries ≡ book_cells book)
+IsLoaded (Some cells) book = (is_plain_book book ≡ true) × (cells ≡ book_cells book)

@@ -15,7 +15,6 @@ use crate::status::{BOOK_REFUSED, DONE, LINE_REFUSED, NO_MEMORY, SCRIPT_TOO_LONG
 use crate::write::write_all;
 
 /// Writes the output for what the desk gave, and answers the status.
-#[tactic(auto, using(crate::proofs::Ended::too_long_ends))]
 pub(crate) fn write_output<K: Sink>(alloc: Global, inputs: &Inputs, sink: &mut K) -> u8
     requires { IsShort inputs.now }
     ensures ends { Ends result (K.written sink.old) (K.written sink.new) (ending_of inputs.now) }

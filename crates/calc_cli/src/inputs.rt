@@ -1,5 +1,6 @@
 ghost use Rattle.std.specs.Prelude.{◌≡◌, ◌≤◌, length, Some, IfOk, IsErrOf, IsTrue, IsSome, IfSome, List, ℕ};
 ghost use Rattle.calc_cli.specs.Endings.{IsTaken, IsLoaded};
+ghost use Rattle.std.specs.Option.{option_map};
 ghost use Rattle.calc_io.specs.Desk.{told_book, IsUnknown};
 ghost use Rattle.calc_io.specs.Faults.{Rose};
 
@@ -29,7 +30,7 @@ pub(crate) enum Inputs {
 
 /// The cells of a book's bytes, unless they have a form that can't be read so far.
 fn cells_of(alloc: Global, bytes: &[u8]) -> Result<Option<Cells>, NoMemory>
-    ensures { IfOk result (λ cells. IsLoaded cells bytes.now) }
+    ensures { IfOk result (λ cells. IsLoaded (option_map (λ c. c.entries) cells) bytes.now) }
 {
     match read_book(alloc, bytes) {
         Ok(cells) => Ok(Some(cells)),
