@@ -12,8 +12,8 @@ mod moves;
 mod pieces;
 mod read;
 mod reference;
-mod walk;
 mod shift;
+mod walk;
 mod write;
 
 pub use bracketed::read_ref;

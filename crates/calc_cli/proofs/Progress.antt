@@ -25,12 +25,12 @@ pub stopped : (old new : Option (List ℕ)) (whole rest : List ℕ) → IsWritte
 stopped old new whole rest (front, whole_is, before) = (front, rest, whole_is, before)
 
 pub stopped_inside : (old then new : Option (List ℕ)) (whole part rest : List ℕ) → IsWrittenTo old then whole (part ++ rest) → GrowsWithin then new part → GrowsWithin old new whole
-stopped_inside old then new whole part rest (front, whole_is, before) (more, left, part_is, now) =
-    ( front ++ more
-    , left ++ rest
-    , whole_is ∙ ap (λ p. front ++ (p ++ rest)) part_is ∙ ap (λ p. front ++ p) (append_assoc more left rest) ∙ sym (append_assoc front more (left ++ rest))
-    , Appends-trans old then new front more before now
-    )
+stopped_inside old then new whole part rest (front, whole_is, before) (more, left, part_is, now) = (
+  front ++ more,
+  left ++ rest,
+  whole_is ∙ ap (λ p. front ++ (p ++ rest)) part_is ∙ ap (λ p. front ++ p) (append_assoc more left rest) ∙ sym (append_assoc front more (left ++ rest)),
+  Appends-trans old then new front more before now,
+)
 
 pub room_for_part : (room : Option ℕ) (part rest : List ℕ) → HasRoom room (length (part ++ rest)) → HasRoom room (length part)
 room_for_part room part rest has = HasRoom-less room (length part) (length (part ++ rest)) (omega (arith, length-append part rest)) has

@@ -27,9 +27,9 @@ too_long = record { status = 7; written = [] }
 
 unfoldable pub answered : Cells → List ℕ → Ending
 answered cells script = record {
-    status = if has_refusal (lines_of script) then 1 else 0;
-    written = replies (val (book_of cells)) 1 (lines_of script);
-  }
+  status = if has_refusal (lines_of script) then 1 else 0;
+  written = replies (val (book_of cells)) 1 (lines_of script);
+}
 
 abbrev pub ending : List ℕ → List ℕ → Ending
 ending book script =

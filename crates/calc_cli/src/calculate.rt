@@ -4,15 +4,13 @@ ghost use Rattle.calc_io.specs.Faults.{Rose};
 ghost use Rattle.calc_io.specs.Sink.{HasRoom};
 ghost use Rattle.calc_cli.specs.Endings.{Ends, answered, not_built, ending_of, IsShort};
 
-use std::alloc::Global;
-
-use calc_io::Sink;
-use plain_evaluator::{Cells, evaluate};
-
 use crate::inputs::Inputs;
 use crate::output::{WriteFault, write_replies};
 use crate::status::{BOOK_REFUSED, DONE, LINE_REFUSED, NO_MEMORY, SCRIPT_TOO_LONG, SINK_FAILED};
 use crate::write::write_all;
+use calc_io::Sink;
+use plain_evaluator::{Cells, evaluate};
+use std::alloc::Global;
 
 /// Writes the output for what the desk gave, and answers the status.
 pub(crate) fn write_output<K: Sink>(alloc: Global, inputs: &Inputs, sink: &mut K) -> u8

@@ -4,9 +4,8 @@ ghost use Rattle.std.specs.Io.KnownBytes.{Keeps, ReadConsumes};
 ghost use Rattle.calc_io.specs.Faults.{Rose};
 ghost use Rattle.calc_cli.specs.Inputs.{left_of, other};
 
-use std::alloc::{AllocError, Global};
-
 use calc_io::{Desk, Failed};
+use std::alloc::{AllocError, Global};
 
 /// One of the two inputs of a run.
 #[derive(Clone, Copy, Debug, PartialEq, Eq)]

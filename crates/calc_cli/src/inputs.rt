@@ -1,18 +1,20 @@
 ghost use Rattle.std.specs.Prelude.{◌≡◌, ◌≤◌, length, Some, IfOk, IsErrOf, IsTrue, IsSome, IfSome, List, ℕ};
-ghost use Rattle.calc_cli.specs.Endings.{IsTaken, IsLoaded};
+ghost use Rattle.calc_cli.specs.Endings.{IsTaken, IsLoaded, IsShort, ending, ending_of};
 ghost use Rattle.std.specs.Option.{option_map};
 ghost use Rattle.calc_io.specs.Desk.{told_book, IsUnknown};
+ghost use Rattle.std.specs.Io.KnownBytes.{Keeps};
 ghost use Rattle.calc_io.specs.Faults.{Rose};
 
-use std::alloc::{AllocError, Global};
-
+use crate::input::{Input, ReadFault, read_all};
 use calc_addr::NoMemory;
 use calc_book::{BookFault, read_book};
 use calc_io::Desk;
 use calc_model::Text;
 use plain_evaluator::Cells;
+use std::alloc::{AllocError, Global};
 
-use crate::input::{Input, ReadFault, read_all};
+/// The most bytes that a book may have so far.
+const MOST_BOOK_BYTES: usize = 65_535;
 
 /// The most bytes that a script may have.
 const MOST_SCRIPT_BYTES: usize = 16_777_216;
@@ -53,4 +55,44 @@ fn read_script<D: Desk>(alloc: Global, desk: &mut D) -> Result<Option<Vec<u8>>, 
         return Ok(None);
     }
     Ok(Some(script))
+}
+
+/// The cells of the book of that name, unless it has a form that can't be read so far.
+fn load_book<D: Desk>(alloc: Global, desk: &mut D, name: &Text) -> Result<Option<Cells>, ReadFault>
+    ensures told { (book : List ℕ) → told_book (D.books desk.old) name.now ≡ Some book → IfOk result (λ cells. IsLoaded (option_map (λ c. c.entries) cells) book) }
+    ensures unknown { IsUnknown (D.books desk.old) name.now → IsErrOf result ReadFault.Desk }
+    ensures same_script { Keeps (D.script_left desk.old) (D.script_left desk.new) }
+    ensures same_calm { D.calm desk.new ≡ D.calm desk.old }
+
+    ensures later { D.faults desk.old ≤ D.faults desk.new }
+    ensures cause { IsErrOf result ReadFault.Desk → Rose (D.faults desk.old) (D.faults desk.new) }
+    ensures no_fault { IsTrue (D.calm desk.old) → IsSome (told_book (D.books desk.old) name.now) → D.faults desk.new ≡ D.faults desk.old }
+{
+    desk.open_book(name)?;
+    let book = read_all(alloc, desk, Input::Book, MOST_BOOK_BYTES)?;
+    let cells = cells_of(alloc, &book)?;
+    Ok(cells)
+}
+
+/// What the desk has, or why it can't be taken.
+pub(crate) fn read_inputs<D: Desk>(
+    alloc: Global,
+    desk: &mut D,
+    name: &Text,
+) -> Result<Inputs, ReadFault>
+    ensures told { (book script : List ℕ) → told_book (D.books desk.old) name.now ≡ Some book → D.script_left desk.old ≡ Some script → IfOk result (λ inputs. ending_of inputs ≡ ending book script) }
+    ensures unknown { IsUnknown (D.books desk.old) name.now → IsErrOf result ReadFault.Desk }
+    ensures short { IfOk result IsShort }
+
+    ensures later { D.faults desk.old ≤ D.faults desk.new }
+    ensures cause { IsErrOf result ReadFault.Desk → Rose (D.faults desk.old) (D.faults desk.new) }
+    ensures no_fault { IsTrue (D.calm desk.old) → IsSome (told_book (D.books desk.old) name.now) → D.faults desk.new ≡ D.faults desk.old }
+{
+    let Some(cells) = load_book(alloc, desk, name)? else {
+        return Ok(Inputs::NotBuilt);
+    };
+    match read_script(alloc, desk)? {
+        Some(script) => Ok(Inputs::Read(cells, script)),
+        None => Ok(Inputs::TooLong),
+    }
 }

@@ -2,6 +2,7 @@
 #![tactic(auto)]
 
 mod calculate;
+mod command;
 mod input;
 mod inputs;
 mod output;
@@ -10,3 +11,5 @@ mod reply;
 mod status;
 mod words;
 mod write;
+
+pub use command::run;

@@ -9,14 +9,12 @@ ghost use Rattle.plain_evaluator.specs.Plain.{book_of, results_of};
 ghost use Rattle.calc_cli.specs.Replies.{reply, replies, is_refused, has_refusal};
 ghost use Rattle.calc_cli.specs.Writes.{GrowsWithin};
 
-use std::alloc::{AllocError, Global};
-
+use crate::reply::{is_refused, reply};
+use crate::write::write_all;
 use calc_io::{Failed, Sink};
 use calc_script::{lines, read_line};
 use plain_evaluator::{Cells, Results};
-
-use crate::reply::{is_refused, reply};
-use crate::write::write_all;
+use std::alloc::{AllocError, Global};
 
 /// Why the output isn't written to its end.
 #[derive(Clone, Copy, Debug, PartialEq, Eq)]

@@ -6,14 +6,19 @@ ghost use Rattle.calc_model.specs.Values.{text_of};
 ghost use Rattle.plain_evaluator.specs.Plain.{book_of, results_of};
 ghost use Rattle.calc_cli.specs.Records.{row_texts, record_text, printed_area, Holds};
 
-use std::alloc::{AllocError, Global};
-
 use calc_addr::{Area, NoMemory};
 use csv::{ByteRecord, Writer, WriterBuilder};
 use plain_evaluator::{Cells, Results, show_cell};
+use std::alloc::{AllocError, Global};
 
 /// Puts the texts of a row's cells into a record.
-fn fill_record(alloc: Global, cells: &Cells, results: &Results, row: Area, record: &mut ByteRecord) -> Result<(), NoMemory>
+fn fill_record(
+    alloc: Global,
+    cells: &Cells,
+    results: &Results,
+    row: Area,
+    record: &mut ByteRecord,
+) -> Result<(), NoMemory>
     ensures { OnOk result (fields_of record.new ≡ row_texts (shown_by (book_of cells.now.entries) (results_of results.now.entries)) row) }
 {
     let mut text = Vec::new(alloc);
@@ -27,7 +32,13 @@ fn fill_record(alloc: Global, cells: &Cells, results: &Results, row: Area, recor
 }
 
 /// The records of the rows of an area, behind what `out` holds.
-pub(crate) fn print_area(alloc: Global, out: Vec<u8>, cells: &Cells, results: &Results, area: Area) -> Result<Vec<u8>, NoMemory>
+pub(crate) fn print_area(
+    alloc: Global,
+    out: Vec<u8>,
+    cells: &Cells,
+    results: &Results,
+    area: Area,
+) -> Result<Vec<u8>, NoMemory>
     ensures { IfOk result (λ text. text.items ≡ out.items ++ printed_area (shown_by (book_of cells.now.entries) (results_of results.now.entries)) area) }
 {
     let mut writer = writer_to(out);

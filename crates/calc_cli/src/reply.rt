@@ -3,18 +3,22 @@ ghost use Rattle.calc_model.specs.Results.{shown_by};
 ghost use Rattle.plain_evaluator.specs.Plain.{book_of, results_of};
 ghost use Rattle.calc_cli.specs.Replies.{reply, refusal, is_refused};
 
-use std::alloc::Global;
-
+use crate::print::print_area;
 use calc_addr::NoMemory;
 use calc_script::{Cause, Command, Line};
 use itoa::Buffer;
 use plain_evaluator::{Cells, Results};
-
-use crate::print::print_area;
+use std::alloc::Global;
 
 /// What a line writes.
 #[tactic(auto, unfolding(crate::specs::Replies::reply))]
-pub(crate) fn reply(alloc: Global, cells: &Cells, results: &Results, number: usize, line: &Line) -> Result<Vec<u8>, NoMemory>
+pub(crate) fn reply(
+    alloc: Global,
+    cells: &Cells,
+    results: &Results,
+    number: usize,
+    line: &Line,
+) -> Result<Vec<u8>, NoMemory>
     ensures { IfOk result (λ text. text.items ≡ reply (shown_by (book_of cells.now.entries) (results_of results.now.entries)) number line.now) }
 {
     match line {

@@ -17,9 +17,9 @@ returns-in_err-refused-clause-err g c =
     let values = shown_by (book_of c.args.cells.now.entries) (results_of c.args.results.now.entries) in
     let whole = replies values 1 (lines_of c.args.script.now) in
     at_error c.from_residual.result (GrowsWithin (sink.written c.args.sink.now) (sink.written c.write_reply.new.sink) whole)
-        (stopped_inside (sink.written c.args.sink.now) (sink.written c.loop-line.sink) (sink.written c.write_reply.new.sink) whole (reply values c.loop-line.number (line_of c.in-Some.line.now)) (replies values (c.loop-line.number + 1) c.next.new.self)
-            (subst (λ lines. IsWrittenTo (sink.written c.args.sink.now) (sink.written c.loop-line.sink) whole (replies values c.loop-line.number lines)) c.in-Some.ensures.steps c.loop-line.invariant.written)
-            c.in_err-refused.ensures.err)
+    (stopped_inside (sink.written c.args.sink.now) (sink.written c.loop-line.sink) (sink.written c.write_reply.new.sink) whole (reply values c.loop-line.number (line_of c.in-Some.line.now)) (replies values (c.loop-line.number + 1) c.next.new.self)
+    (subst (λ lines. IsWrittenTo (sink.written c.args.sink.now) (sink.written c.loop-line.sink) whole (replies values c.loop-line.number lines)) c.in-Some.ensures.steps c.loop-line.invariant.written)
+    c.in_err-refused.ensures.err)
 
 pub returns-in_err-refused-clause-fits : goal.returns-in_err-refused-clause-fits
 returns-in_err-refused-clause-fits g c =

@@ -12,7 +12,8 @@ loop-row-preserved c =
     let values = shown_by (book_of c.args.cells.now.entries) (results_of c.args.results.now.entries) in
     let text : Rectangle → List ℕ = λ row. record_text (row_texts values row) in
     let inv = c.loop-row.invariant in
-    let fields : fields_of c.fill_record.new.record ≡ row_texts values c.in-Some.row = c.in_ok-fill_record.ensures in
-    (inv.0 ++ text c.in-Some.row,
-     subst (λ fs. Holds c.write_record.new.writer (inv.0 ++ record_text fs)) fields (c.in_ok-write_record.ensures inv.0 inv.1),
-     join_one text inv.0 (c.args.out.items ++ printed_area values c.args.area) c.loop-row.row-iterator c.next.new.self c.in-Some.row inv.2 c.in-Some.ensures.steps)
+    let fields : fields_of c.fill_record.new.record ≡ row_texts values c.in-Some.row = c.in_ok-fill_record.ensures in (
+      inv.0 ++ text c.in-Some.row,
+      subst (λ fs. Holds c.write_record.new.writer (inv.0 ++ record_text fs)) fields (c.in_ok-write_record.ensures inv.0 inv.1),
+      join_one text inv.0 (c.args.out.items ++ printed_area values c.args.area) c.loop-row.row-iterator c.next.new.self c.in-Some.row inv.2 c.in-Some.ensures.steps,
+    )

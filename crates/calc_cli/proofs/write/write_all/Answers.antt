@@ -8,7 +8,7 @@ pub returns-in_err-written-clause-err : goal.returns-in_err-written-clause-err
 returns-in_err-written-clause-err g c =
     let sink = g.K.Sink in
     at_error c.from_residual.result (GrowsWithin (sink.written c.args.sink.now) (sink.written c.write.new.self) c.args.bytes.now)
-        (written_before (sink.written c.args.sink.now) (sink.written c.loop-written.sink) (sink.written c.write.new.self) c.args.bytes.now c.loop-written.written c.loop-written.invariant.appended c.in_err-written.ensures.bytes)
+    (written_before (sink.written c.args.sink.now) (sink.written c.loop-written.sink) (sink.written c.write.new.self) c.args.bytes.now c.loop-written.written c.loop-written.invariant.appended c.in_err-written.ensures.bytes)
 
 pub loop-written-preserved : goal.loop-written-preserved
 loop-written-preserved g c =

@@ -1,0 +1,26 @@
+use Rattle.std.proofs.Common.{◌≡◌, Some, None, subst}
+use Rattle.std.specs.Option.{option_map}
+use Rattle.calc_cli.specs.Endings.{IsLoaded, IsTaken}
+use Rattle.calc_cli.proofs.Ended.{ends_not_built, ends_too_long, ends_answered, script_kept}
+use Rattle.calc_cli.proofs.inputs.read_inputs.Goals as goal
+
+pub returns-in_default-clause-told : goal.returns-in_default-clause-told
+returns-in_default-clause-told g c =
+    λ book script told left.
+    ends_not_built book script (subst (λ cells. IsLoaded (option_map (λ m. m.entries) cells) book) c.in_default.is (c.in_ok-cells.ensures.told book told))
+
+pub returns-in-Some-2-clause-told : goal.returns-in-Some-2-clause-told
+returns-in-Some-2-clause-told g c =
+    λ book script told left.
+    let loaded : IsLoaded (Some c.in-Some.cells.entries) book = subst (λ cells. IsLoaded (option_map (λ m. m.entries) cells) book) c.in-Some.is (c.in_ok-cells.ensures.told book told) in
+    let kept = script_kept (g.D.Desk.script_left c.args.desk.now) (g.D.Desk.script_left c.load_book.new.desk) script c.in_ok-cells.ensures.same_script left in
+    let taken : IsTaken (Some c.in-Some-2.script) script = subst (λ bytes. IsTaken bytes script) c.in-Some-2.is (c.in_ok-script.ensures.told script kept) in
+    ends_answered book script c.in-Some-2.script.items c.in-Some.cells.entries loaded.0 taken.0 loaded.1 taken.1
+
+pub returns-in-None-clause-told : goal.returns-in-None-clause-told
+returns-in-None-clause-told g c =
+    λ book script told left.
+    let loaded : IsLoaded (Some c.in-Some.cells.entries) book = subst (λ cells. IsLoaded (option_map (λ m. m.entries) cells) book) c.in-Some.is (c.in_ok-cells.ensures.told book told) in
+    let kept = script_kept (g.D.Desk.script_left c.args.desk.now) (g.D.Desk.script_left c.load_book.new.desk) script c.in_ok-cells.ensures.same_script left in
+    let taken : IsTaken None script = subst (λ bytes. IsTaken bytes script) c.in-None.is (c.in_ok-script.ensures.told script kept) in
+    ends_too_long book script loaded.0 taken
