@@ -1,14 +1,13 @@
 //! `calc BOOK` calculates a book's cells by the script on standard input.
 #![tactic(auto)]
 
+use calc_cli::run;
+use calc_io::{PipeDesk, PipeSink};
+use calc_model::Text;
 use std::env;
 use std::io::{self, ErrorKind};
 use std::process::ExitCode;
 use std::rt::Env;
-
-use calc_cli::run;
-use calc_io::{PipeDesk, PipeSink};
-use calc_model::Text;
 
 /// The words after the program's name.
 fn words_of<R: Env + AllocGlobal>(rt: &R) -> io::Result<Vec<Text>> {
