@@ -1,10 +1,11 @@
 -- Rounded products and quotients of sizes, and their signs.
-use Rattle.std.proofs.Common.{◌≡◌, ℕ, zero, suc, ◌+◌, ◌*◌, ◌/◌, ◌%◌, ◌^◌, ◌<◌, min, true, false, not, ℤ, pos, negsuc, nat_abs, refl, ap, ◌∙◌, sym, arith}
+use Rattle.std.proofs.Common.{◌≡◌, ℕ, zero, suc, ◌+◌, ◌*◌, ◌/◌, ◌%◌, ◌^◌, ◌<◌, ◌≤◌, min, true, false, not, ℤ, pos, negsuc, nat_abs, refl, ap, ◌∙◌, sym, arith}
 use mathlib.Core.Bool.{beq}
 use lib.Signed.{lt_z}
 use Rattle.std.proofs.Math.Nat.{mul-add-div_right, mul-div-mul_left}
 use Rattle.std.proofs.lemmas.Nat.{div-add-mod'}
 use Rattle.calc_num.specs.Decimals.{rounded, nearest, checked, with_sign, quotient}
+use Rattle.calc_num.proofs.Scale.{rounded-scaled}
 use Rattle.calc_num.proofs.Signs.{not_below_zero, neg-neg, checked-rounded}
 
 -- for an even divisor half of it is added
@@ -20,8 +21,33 @@ split_product a b u h some =
     ap (λ n. n * b + h) (sym (div-add-mod' a u)) ∙ omega arith in
     rw parts (mul-add-div_right {m = u} some (a / u * b) (a % u * b + h))
 
-pub rounded-product : (a b : ℕ) → rounded (a * b) (10 ^ 9) ≡ a / 10 ^ 9 * b + (a % 10 ^ 9 * b + 5 * 10 ^ 8) / 10 ^ 9
-rounded-product a b = rounded-even (a * b) (5 * 10 ^ 8) (omega arith) ∙ split_product a b (10 ^ 9) (5 * 10 ^ 8) (omega arith)
+-- and by the parts of both factors
+split_second : (a b u h : ℕ) → 0 < u → (a * b + h) / u ≡ a * (b / u) + (a * (b % u) + h) / u
+split_second a b u h some =
+    let parts : a * b + h ≡ a * (b / u) * u + (a * (b % u) + h) =
+    ap (λ n. a * n + h) (sym (div-add-mod' b u)) ∙ omega arith in
+    rw parts (mul-add-div_right {m = u} some (a * (b / u)) (a * (b % u) + h))
+
+pub rounded-product : (a b : ℕ) → rounded (a * b) (10 ^ 9) ≡ a / 10 ^ 9 * b + (a % 10 ^ 9 * (b / 10 ^ 9) + (a % 10 ^ 9 * (b % 10 ^ 9) + 5 * 10 ^ 8) / 10 ^ 9)
+rounded-product a b =
+    rounded-even (a * b) (5 * 10 ^ 8) (omega arith) ∙ split_product a b (10 ^ 9) (5 * 10 ^ 8) (omega arith) ∙ ap (λ n. a / 10 ^ 9 * b + n) (split_second (a % 10 ^ 9) b (10 ^ 9) (5 * 10 ^ 8) (omega arith))
+
+-- the same in four products
+pub rounded-product_parts : (a b : ℕ) → a / 10 ^ 9 * (b / 10 ^ 9) * 10 ^ 9 + (a / 10 ^ 9 * (b % 10 ^ 9) + a % 10 ^ 9 * (b / 10 ^ 9)) + (a % 10 ^ 9 * (b % 10 ^ 9) + 5 * 10 ^ 8) / 10 ^ 9 ≡ rounded (a * b) (10 ^ 9)
+rounded-product_parts a b =
+    let whole : a / 10 ^ 9 * b ≡ a / 10 ^ 9 * (b / 10 ^ 9 * 10 ^ 9 + b % 10 ^ 9) = ap (λ n. a / 10 ^ 9 * n) (sym (div-add-mod' b (10 ^ 9))) in
+    omega (arith, rounded-product a b)
+
+-- which is at the limit where the whole parts' product is too large
+pub rounded-product_large : (a b : ℕ) → 10 ^ 18 ≤ a / 10 ^ 9 * (b / 10 ^ 9) → 10 ^ 27 ≡ min (rounded (a * b) (10 ^ 9)) (10 ^ 27)
+rounded-product_large a b large = omega (arith, rounded-product_parts a b)
+
+-- where the divisor is a multiple, the fraction is reduced
+pub rounded-reduced : (a b u v : ℕ) → 0 < u → b % u ≡ 0 → rounded (a * (v * u)) b ≡ rounded (a * v) (b / u)
+rounded-reduced a b u v some whole =
+    let top : a * (v * u) ≡ u * (a * v) = omega arith in
+    let bottom : b ≡ u * (b / u) = sym (div-add-mod' b u) ∙ rw whole (omega arith) in
+    rw top (ap (rounded (u * (a * v))) bottom ∙ rounded-scaled u (a * v) (b / u) some)
 
 pub quotient-sizes : (n m : ℤ) → (nat_abs m ≡ 0 → ⊥) → checked (with_sign (not (beq (lt_z n (pos 0)) (lt_z m (pos 0)))) (min (rounded (nat_abs n * 10 ^ 9) (nat_abs m)) (10 ^ 27))) ≡ quotient n m
 quotient-sizes n (pos zero) some = absurd (some refl)

@@ -17,7 +17,7 @@ use Rattle.calc_num.specs.Spelling.{Unsigned, whole_number, front_digits, behind
 use Rattle.calc_num.specs.declared.parse.Reading.TheVariants.{Number, TooLarge}
 use Rattle.calc_num.proofs.Digits.{length-last_digits}
 use Rattle.calc_num.proofs.Signs.{nearest-sign, is_raw-sign}
-use Rattle.calc_num.proofs.Scale.{digit_range, digits_behind, power_some, rounded-scaled, rounded-whole}
+use Rattle.calc_num.proofs.Scale.{digit_range, digits_behind, both_sides, power_some, rounded-scaled, rounded-whole}
 
 -- a digit of a number below ten
 digit_is : (n : ℕ) → n < 10 → is_ascii_digit (48 + n) ≡ true
@@ -135,11 +135,6 @@ pub record SpellsSize (text : List ℕ) (n : ℕ) : Type 0 where
   pub parts : Unsigned
   pub spelled : unsigned text ≡ Some parts
   pub nearest_size : rounded (numerator parts * 10 ^ 9) (denominator parts) ≡ n
-
--- the digits on both sides of the point as one number
-both_sides : (ds fs : List ℕ) → digits_number (ds ++ fs) ≡ digits_number ds * 10 ^ length fs + digits_number fs
-both_sides ds fs =
-    fold-append (λ number digit. 10 * number + (digit - 48)) 0 ds fs ∙ digits_behind (digits_number ds) fs
 
 whole_spelled : (n : ℕ) → n < 10 ^ 27 → n % 10 ^ 9 ≡ 0 → SpellsSize (decimal (n / 10 ^ 9) ++ []) n
 whole_spelled n small none =

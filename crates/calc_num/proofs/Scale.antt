@@ -1,17 +1,26 @@
 -- How a size grows by a digit, and what rounds it.
-use Rattle.std.proofs.Common.{◌≡◌, ℕ, suc, ◌+◌, ◌-◌, ◌*◌, ◌^◌, ◌<◌, ◌≤◌, min, Bool, true, List, [], ◌∷◌, ◌++◌, length, take, drop, Some, inl, inr, ap, ◌∙◌, sym, arith}
+use Rattle.std.proofs.Common.{◌≡◌, ℕ, suc, ◌+◌, ◌-◌, ◌*◌, ◌^◌, ◌<◌, ◌≤◌, min, Bool, true, List, [], ◌∷◌, ◌++◌, length, take, drop, get_or, map, Some, inl, inr, refl, ap, ◌∙◌, sym, arith}
 use Rattle.std.specs.Char.{is_ascii_digit}
-use Rattle.std.specs.List.{fold, list_all}
+use Rattle.std.specs.List.{fold, list_all, range_with_len}
 use Rattle.std.proofs.Math.Nat.{pow-suc, one-le-pow, mul-div-mul_left, le-div_iff_mul-le, div-eq_of_lt-le, mul-le-mul_right, le-mul_of_pos_right, pow-le-pow_right, min-eq_left, min-eq_right}
 use Rattle.std.proofs.lemmas.Bool.{and_parts, leb-true, cases_lt}
 use Rattle.std.proofs.lemmas.List.{append_assoc, take-append-drop}
 use Rattle.std.proofs.lemmas.List.Folds.{list_all-append}
+use Rattle.std.proofs.lemmas.List.FromFn.{get_or-map-range_with_len}
+use Rattle.std.proofs.lemmas.List.Sums.{fold-append}
 use Rattle.calc_num.specs.Decimals.{rounded}
 use Rattle.calc_num.specs.Scaling.{worth}
 use Rattle.calc_num.specs.Spelling.{digits_number}
+use Rattle.calc_num.specs.declared.parse.TheConstants.{POWERS}
 
 pub power_some : (k : ℕ) → 1 ≤ 10 ^ k
 power_some k = one-le-pow k 10 (omega arith)
+
+-- the table of powers
+pub POWERS-at : (k : ℕ) → k ≤ 18 → get_or POWERS k 0 ≡ 10 ^ k
+POWERS-at k within =
+    let table : POWERS ≡ map (λ i. 10 ^ i) (range_with_len 0 19) = refl in
+    ap (λ powers. get_or powers k 0) table ∙ get_or-map-range_with_len (λ i. 10 ^ i) 0 19 k k 0 (omega arith) (omega arith)
 
 -- both sides of a fraction may be multiplied by one number
 pub rounded-scaled : (a p q : ℕ) → 0 < a → rounded (a * p) (a * q) ≡ rounded p q
@@ -43,6 +52,11 @@ digits_behind n (d ∷ ds) =
     let more = digits_behind (10 * n + (d - 48)) ds in
     let alone = digits_behind (10 * 0 + (d - 48)) ds in
     more ∙ rw (pow-suc 10 (length ds), alone) (omega arith)
+
+-- the digits on both sides of the point as one number
+pub both_sides : (ds fs : List ℕ) → digits_number (ds ++ fs) ≡ digits_number ds * 10 ^ length fs + digits_number fs
+both_sides ds fs =
+    fold-append (λ number digit. 10 * number + (digit - 48)) 0 ds fs ∙ digits_behind (digits_number ds) fs
 
 pub digits_number-cons : (d : ℕ) (ds : List ℕ) → digits_number (d ∷ ds) ≡ (d - 48) * 10 ^ length ds + digits_number ds
 digits_number-cons d ds = digits_behind (10 * 0 + (d - 48)) ds ∙ omega arith

@@ -10,6 +10,7 @@ mod parse;
 mod power;
 mod print;
 mod rounding;
+mod split;
 
 pub use num::{Num, NumFault};
 pub use parse::Reading;

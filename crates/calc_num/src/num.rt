@@ -4,7 +4,7 @@ ghost use Rattle.calc_num.specs.Decimals.{IsRaw, checked, with_sign};
 use std::marker::Model;
 
 /// The raw number of 1.
-pub(crate) const ONE: u128 = 1_000_000_000;
+pub(crate) const ONE: u64 = 1_000_000_000;
 /// The first size that is out of range.
 pub(crate) const LIMIT: u128 = 1_000_000_000_000_000_000_000_000_000;
 

@@ -1,5 +1,5 @@
 //! The reading of a number.
-ghost use Rattle.std.specs.Prelude.{◌≡◌, ℕ, ◌+◌, ◌-◌, ◌*◌, ◌^◌, ◌==◌, ◌<◌, ◌≤◌, List, [], ◌∷◌, ◌++◌, length, min, ℤ, pos, neg_ℤ, ◌+ℤ◌, ◌<ℤ◌, ◌≤ℤ◌, true, MatchOption};
+ghost use Rattle.std.specs.Prelude.{◌≡◌, ℕ, ◌+◌, ◌-◌, ◌*◌, ◌^◌, ◌==◌, ◌<◌, ◌≤◌, List, [], ◌∷◌, ◌++◌, length, min, ℤ, pos, neg_ℤ, ◌+ℤ◌, ◌<ℤ◌, ◌≤ℤ◌, true, MatchOption, IfSome};
 ghost use Rattle.std.specs.Char.{is_ascii_digit};
 ghost use Rattle.std.specs.List.{list_all, prefix_len};
 ghost use Rattle.std.specs.Option.{ForSome, option_map};
@@ -10,6 +10,8 @@ use crate::num::{LIMIT, Num};
 
 /// Exponents of this size and more aren't told apart: no text has so many digits.
 const FAR: u128 = 100_000_000_000_000_000_000;
+/// Numbers of this size and more aren't told apart while digits are read.
+const MANY: u64 = 1_000_000_000_000_000_000;
 
 /// What a text is as a number.
 #[derive(Clone, Copy, Debug, PartialEq, Eq)]
@@ -22,38 +24,63 @@ pub enum Reading {
     NotNumber,
 }
 
-/// How many digits a text begins with.
-fn count_digits(text: &[u8]) -> usize
-    ensures { result ≡ prefix_len is_ascii_digit text.now }
-{
-    let digits = text.iter().take_while(|byte| byte.is_ascii_digit());
-    digits.count()
-}
-
-/// Parts a text behind the digits that it begins with.
-fn split_digits(text: &[u8]) -> (&[u8], &[u8])
-    ensures digits { result.0.now ≡ front_digits text.now }
-    ensures rest { result.1.now ≡ behind_digits text.now }
-{
-    text.split_at(count_digits(text))
-}
-
-/// Parts a text behind a point that it begins with and the digits behind that.
-fn split_fraction(text: &[u8]) -> (&[u8], &[u8])
-    ensures digits { result.0.now ≡ fraction_digits text.now }
-    ensures rest { result.1.now ≡ behind_fraction text.now }
-{
-    match text {
-        [b'.', rest @ ..] => split_digits(rest),
-        _ => (&[], text),
-    }
-}
-
 /// The number that a digit writes.
 fn digit_number(digit: u8) -> u8
     ensures { result ≡ digit - 48 }
 {
     digit.saturating_sub(b'0')
+}
+
+/// Digits, with the number that they write, or the bound where that is greater.
+#[derive(Clone, Copy)]
+struct Digits<'a> {
+    bytes: &'a [u8],
+    number: u64,
+    ghost digits: { list_all is_ascii_digit bytes.now ≡ true },
+    ghost value: { number ≡ min (digits_number bytes.now) (10 ^ 18) },
+}
+
+/// How many digits a text begins with, and the number that they write, or the bound where that is
+/// greater.
+fn read_digits(text: &[u8]) -> (usize, u64)
+    ensures count { result.0 ≡ prefix_len is_ascii_digit text.now }
+    ensures number { result.1 ≡ min (digits_number (front_digits text.now)) (10 ^ 18) }
+{
+    let mut number = 0;
+    for (count, byte) in text.iter().enumerate() {
+        if !byte.is_ascii_digit() {
+            return (count, number);
+        }
+        number = (10 * number + u64::from(digit_number(*byte))).min(MANY);
+    }
+    (text.len(), number)
+}
+
+/// Parts a text behind the digits that it begins with.
+fn split_digits(text: &[u8]) -> (Digits<'_>, &[u8])
+    ensures digits { result.0.bytes.now ≡ front_digits text.now }
+    ensures rest { result.1.now ≡ behind_digits text.now }
+{
+    let (count, number) = read_digits(text);
+    let (bytes, rest) = text.split_at(count);
+    (Digits { bytes, number }, rest)
+}
+
+/// Parts a text behind a point that it begins with and the digits behind that.
+fn split_fraction(text: &[u8]) -> (Digits<'_>, &[u8])
+    ensures digits { result.0.bytes.now ≡ fraction_digits text.now }
+    ensures rest { result.1.now ≡ behind_fraction text.now }
+{
+    match text {
+        [b'.', rest @ ..] => split_digits(rest),
+        _ => (
+            Digits {
+                bytes: &[],
+                number: 0,
+            },
+            text,
+        ),
+    }
 }
 
 /// The number that digits write, or the bound where that is greater.
@@ -193,8 +220,8 @@ fn places_before_cut(count: usize, exponent: i128) -> Option<u128>
     }
 }
 
-/// The size in billionths of digits round a point with an exponent, or the limit.
-fn scaled(whole: &[u8], fraction: &[u8], exponent: i128) -> u128
+/// The size in billionths of digits round a point with an exponent, or the limit: digit by digit.
+fn long_size(whole: &[u8], fraction: &[u8], exponent: i128) -> u128
     requires digits { list_all is_ascii_digit (whole.now ++ fraction.now) ≡ true }
     requires low { neg_ℤ (pos (10 ^ 20)) ≤ℤ exponent }
     requires high { exponent ≤ℤ pos (10 ^ 20) }
@@ -213,6 +240,83 @@ fn scaled(whole: &[u8], fraction: &[u8], exponent: i128) -> u128
     }
 }
 
+/// Ten to the powers 0 to 18.
+static POWERS: [u64; 19] = [
+    1,
+    10,
+    100,
+    1_000,
+    10_000,
+    100_000,
+    1_000_000,
+    10_000_000,
+    100_000_000,
+    1_000_000_000,
+    10_000_000_000,
+    100_000_000_000,
+    1_000_000_000_000,
+    10_000_000_000_000,
+    100_000_000_000_000,
+    1_000_000_000_000_000,
+    10_000_000_000_000_000,
+    100_000_000_000_000_000,
+    1_000_000_000_000_000_000,
+];
+
+/// A number of less than 19 digits with so many zeros behind it.
+fn with_zeros(number: u64, zeros: usize) -> u128
+    requires number { number < 10 ^ 18 }
+    requires zeros { zeros ≤ 18 }
+    ensures value { result ≡ number * 10 ^ zeros }
+    ensures small { result < 10 ^ 36 }
+{
+    number as u128 * POWERS[zeros] as u128
+}
+
+/// How many places stand between the shifted point and the cut. None where these are far apart.
+fn places_behind_point(exponent: i128) -> Option<usize>
+    requires low { neg_ℤ (pos (10 ^ 20)) ≤ℤ exponent }
+    requires high { exponent ≤ℤ pos (10 ^ 20) }
+    ensures { IfSome result (λ places. (pos places ≡ pos 9 +ℤ exponent) × (places ≤ 18)) }
+{
+    let places = 9 + exponent;
+    if places < 0 || places > 18 {
+        None
+    } else {
+        Some(places as usize)
+    }
+}
+
+/// The size in billionths of digits round a point with an exponent, or the limit, by one product on
+/// each side of the point. None where a side has many digits, or one of them stands behind the cut.
+fn short_size(whole: Digits, fraction: Digits, exponent: i128) -> Option<u128>
+    requires low { neg_ℤ (pos (10 ^ 20)) ≤ℤ exponent }
+    requires high { exponent ≤ℤ pos (10 ^ 20) }
+    ensures { IfSome result (λ size. size
+        ≡ size_of record { whole = whole.entry.bytes.now; fraction = fraction.entry.bytes.now; exponent = exponent }) }
+{
+    if whole.number >= MANY || fraction.number >= MANY {
+        return None;
+    }
+    let before = places_behind_point(exponent)?;
+    let behind = before.checked_sub(fraction.bytes.len())?;
+    let size = with_zeros(whole.number, before) + with_zeros(fraction.number, behind);
+    Some(size.min(LIMIT))
+}
+
+/// The size in billionths of digits round a point with an exponent, or the limit.
+fn scaled(whole: Digits, fraction: Digits, exponent: i128) -> u128
+    requires low { neg_ℤ (pos (10 ^ 20)) ≤ℤ exponent }
+    requires high { exponent ≤ℤ pos (10 ^ 20) }
+    ensures { result
+        ≡ size_of record { whole = whole.entry.bytes.now; fraction = fraction.entry.bytes.now; exponent = exponent } }
+{
+    match short_size(whole, fraction, exponent) {
+        Some(size) => size,
+        None => long_size(whole.bytes, fraction.bytes, exponent),
+    }
+}
+
 /// Whether a number has no digit on either side of its point.
 fn is_bare(whole: &[u8], fraction: &[u8]) -> bool
     ensures { result ≡ (length (whole.now ++ fraction.now) == 0) }
@@ -226,7 +330,7 @@ fn read_unsigned(text: &[u8]) -> Option<u128>
 {
     let (whole, rest) = split_digits(text);
     let (fraction, rest) = split_fraction(rest);
-    if is_bare(whole, fraction) {
+    if is_bare(whole.bytes, fraction.bytes) {
         return None;
     }
     let exponent = read_exponent(rest)?;

@@ -3,15 +3,16 @@ ghost use Rattle.std.specs.Prelude.{◌≡◌, IfOk};
 ghost use Rattle.calc_num.specs.Decimals.{power, repeated_product, square_root, IsLeastRoot};
 
 use crate::num::{Num, NumFault, ONE};
+use crate::split::split;
 
 /// The greatest size of an exponent.
-const MOST: u128 = 1024;
+const MOST: u64 = 1024;
 
 /// One, multiplied by the base so many times. It stops where a further step changes nothing.
 fn repeated(base: Num, count: u32) -> Result<Num, NumFault>
     ensures { result ≡ repeated_product base count }
 {
-    let mut product = Num::from_size(false, ONE);
+    let mut product = Num::from_size(false, ONE as u128);
     for _step in 0..count {
         let next = product.mul(base)?;
         if next == product {
@@ -29,13 +30,13 @@ impl Num {
     pub fn pow(self, exponent: Num) -> Result<Num, NumFault>
         ensures { result ≡ power self exponent }
     {
-        let size = exponent.size();
-        if size % ONE != 0 || size / ONE > MOST {
+        let (count, rest) = split(exponent.size());
+        if rest != 0 || count > MOST {
             return Err(NumFault::NotNum);
         }
-        let product = repeated(self, (size / ONE) as u32)?;
+        let product = repeated(self, count as u32)?;
         if exponent.is_negative() {
-            Num::from_size(false, ONE).div(product)
+            Num::from_size(false, ONE as u128).div(product)
         } else {
             Ok(product)
         }
@@ -50,7 +51,7 @@ impl Num {
         if self.is_negative() {
             return Err(NumFault::NotNum);
         }
-        let doubled = (4 * self.size() * ONE).isqrt();
+        let doubled = (4 * self.size() * ONE as u128).isqrt();
         Ok(Num::from_size(false, (doubled + 1) / 2))
     }
 }

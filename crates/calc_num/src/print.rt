@@ -7,6 +7,7 @@ ghost use Rattle.calc_num.specs.Spelling.{reading};
 ghost use Rattle.calc_num.specs.Numbers.{printed, printed_size, printed_fraction};
 
 use crate::num::{Num, ONE};
+use crate::split::split;
 use itoa::write_digits;
 use std::marker::Model;
 
@@ -55,17 +56,17 @@ fn count_before_zeros(digits: &[u8]) -> usize
 }
 
 /// Puts the text of a fraction in billionths behind the point, and says where it ends.
-fn put_fraction(bytes: &mut [u8], billionths: u128) -> usize
+fn put_fraction(bytes: &mut [u8], billionths: u64) -> usize
     requires size { length bytes.old ≡ 29 }
     requires fraction { billionths < 10 ^ 9 }
     ensures end { (19 ≤ result) × (result ≤ 29) }
     ensures written { slice_range bytes.new 19 result ≡ printed_fraction billionths }
 {
-    write_digits((ONE + billionths) as u64, bytes, LEN);
-    bytes[POINT] = b'.';
     if billionths == 0 {
         return POINT;
     }
+    write_digits(ONE + billionths, bytes, LEN);
+    bytes[POINT] = b'.';
     POINT + 1 + count_before_zeros(&bytes[POINT + 1..])
 }
 
@@ -77,8 +78,9 @@ fn put_size(bytes: &mut [u8], size: u128) -> (usize, usize)
     ensures end { result.1 ≤ 29 }
     ensures written { slice_range bytes.new result.0 result.1 ≡ printed_size size }
 {
-    let end = put_fraction(bytes, size % ONE);
-    let start = write_digits((size / ONE) as u64, bytes, POINT);
+    let (whole, billionths) = split(size);
+    let end = put_fraction(bytes, billionths);
+    let start = write_digits(whole, bytes, POINT);
     (start, end)
 }
 
@@ -91,13 +93,19 @@ impl Num {
         ensures read_back { reading result ≡ Number self }
     {
         let raw = self.raw();
-        let mut bytes = [b'0'; LEN];
-        let (start, end) = put_size(&mut bytes, raw.unsigned_abs());
+        let mut text = NumText {
+            bytes: [b'0'; LEN],
+            start: POINT,
+            end: POINT,
+        };
+        let (start, end) = put_size(&mut text.bytes, raw.unsigned_abs());
+        text.start = start;
+        text.end = end;
         if raw >= 0 {
-            return NumText { bytes, start, end };
+            return text;
         }
-        let start = start - 1;
-        bytes[start] = b'-';
-        NumText { bytes, start, end }
+        text.start = start - 1;
+        text.bytes[start - 1] = b'-';
+        text
     }
 }

@@ -92,7 +92,7 @@ impl Num {
         if divisor == 0 {
             return Err(NumFault::DivZero);
         }
-        let size = self.size() / divisor * ONE;
+        let size = self.size() / divisor * ONE as u128;
         Num::from_any_size(self.is_negative() != other.is_negative(), size)
     }
 }

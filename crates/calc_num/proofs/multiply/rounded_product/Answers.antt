@@ -1,13 +1,11 @@
-use Rattle.std.proofs.Common.{◌≡◌, ◌+◌, ◌*◌, ◌/◌, ◌%◌, ◌^◌, min, ap, ◌∙◌, arith}
-use Rattle.calc_num.proofs.Products.{rounded-product}
+use Rattle.std.proofs.Common.{◌^◌, min, ap}
+use Rattle.calc_num.proofs.Products.{rounded-product_parts, rounded-product_large}
 use Rattle.calc_num.proofs.multiply.rounded_product.Goals as goal
 
-pub returns-then-whole-ge-LIMIT : goal.returns-then-whole-ge-LIMIT
-returns-then-whole-ge-LIMIT c = omega (arith, rounded-product c.args.a c.args.b)
+pub returns-then-wholes : goal.returns-then-wholes
+returns-then-wholes c =
+    rounded-product_large c.args.a c.args.b (rw (c.split-a_whole.ensures.whole, c.split-b_whole.ensures.whole) at c.if-wholes.true)
 
 pub returns : goal.returns
 returns c =
-    let a = c.args.a in
-    let b = c.args.b in
-    let exact : c.saturating_mul-whole.result ≡ a / 10 ^ 9 * b = omega arith in
-    rw (rounded-product a b) (c.min-2.ensures ∙ ap (λ whole. min (whole + (a % 10 ^ 9 * b + 5 * 10 ^ 8) / 10 ^ 9) (10 ^ 27)) exact)
+    rw (c.min-2.ensures, c.split-a_whole.ensures.whole, c.split-b_whole.ensures.whole, c.split-a_whole.ensures.billionths, c.split-b_whole.ensures.billionths) (ap (λ size. min size (10 ^ 27)) (rounded-product_parts c.args.a c.args.b))

@@ -4,17 +4,13 @@ use Rattle.std.proofs.lemmas.Int.{to_z-of_z}
 use Rattle.std.specs.Option.{option_map}
 use Rattle.calc_num.specs.Scaling.{size_of, near}
 use Rattle.calc_num.specs.Spelling.{fraction_digits, behind_fraction, exponent}
-use Rattle.calc_num.proofs.Readings.{parts-all, size_of-parts}
+use Rattle.calc_num.proofs.Readings.{size_of-parts}
 use Rattle.calc_num.proofs.parse.read_unsigned.Goals as goal
-
-pub scaled-requires-clause-digits : goal.scaled-requires-clause-digits
-scaled-requires-clause-digits c =
-    rw (c.split_digits.ensures.digits, c.split_fraction.ensures.digits, c.split_digits.ensures.rest) (parts-all c.args.text.now)
 
 pub returns : goal.returns
 returns c =
-    let whole = c.split_digits.result.0.now in
-    let fraction = c.split_fraction.result.0.now in
+    let whole = c.split_digits.result.0.bytes.now in
+    let fraction = c.split_fraction.result.0.bytes.now in
     let e = c.in_ok-exponent.exponent in
     let fits : FitsSigned w128 e = search rules in
     let exact = ap (λ p. size_of record { whole = whole; fraction = fraction; exponent = p }) (to_z-of_z w128 e fits) in

@@ -7,7 +7,7 @@ use Rattle.std.specs.Char.{is_ascii_digit}
 use Rattle.std.specs.Int.{w128}
 use Rattle.std.specs.List.{list_all}
 use Rattle.calc_num.proofs.Sizes.{worth-size_of, size_of-none}
-use Rattle.calc_num.proofs.parse.scaled.Goals as goal
+use Rattle.calc_num.proofs.parse.long_size.Goals as goal
 
 pub returns-in-None : goal.returns-in-None
 returns-in-None c =
