@@ -6,3 +6,4 @@ mod plain;
 mod splitting;
 
 pub use load::{BookFault, read_book};
+pub use plain::MOST_BYTES;

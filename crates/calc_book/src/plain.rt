@@ -7,9 +7,10 @@ ghost use Rattle.calc_script.specs.Lines.{lines_of};
 use crate::splitting::fields_of;
 use calc_script::lines;
 
-/// The most bytes and fields that a book and a record may have so far.
-pub(crate) const MOST_BYTES: usize = 65_535;
+/// The most bytes that a book may have so far.
+pub const MOST_BYTES: usize = 65_535;
 
+/// The most fields that a record may have.
 const MOST_FIELDS: usize = 1_024;
 
 /// Whether the book is one that can be read so far.

@@ -3,11 +3,12 @@ use Rattle.std.proofs.Common.{rules, [], ◌≡◌, ℕ, ◌+◌, ◌≤◌, ◌
 use Rattle.std.specs.Io.KnownBytes.{Appends, Keeps}
 use Rattle.std.proofs.KnownBytes.{Appends-nil}
 use Rattle.std.proofs.lemmas.List.{length-take, take_all}
-use Rattle.std.proofs.lemmas.Bool.{lt-leb}
+use Rattle.std.proofs.lemmas.Bool.{lt-leb, ltb-true, both_ways}
 use Rattle.std.proofs.lemmas.Bool.Decides.{leb_tells}
 use Rattle.std.specs.List.{list_all}
 use Rattle.std.specs.declared.alloc.Global.{Global}
 use Rattle.calc_book.specs.BookForm.{Cells, is_plain_book, is_plain_byte, is_plain_record, book_cells}
+use Rattle.calc_cli.proofs.Limits.{longer, whole}
 use Rattle.calc_cli.specs.Endings.{Ending, Ends, ending, answered, not_built, too_long, IsLoaded}
 use Rattle.calc_script.specs.Lines.{lines_of}
 
@@ -39,30 +40,17 @@ pub script_kept : (old new : Option (List ℕ)) (script : List ℕ) → Keeps ol
 script_kept old new script kept told = search (rules, kept, told)
 
 -- the bytes taken of a book, up to one more than it may have, tell whether it can be read
-both_false : (a b d : Bool) → a ≡ false → (a && b && d) ≡ false
-both_false false b d e = refl
-both_false true b d e = cc
-
 too_big : (book : List ℕ) → 65535 < length book → is_plain_book book ≡ false
-too_big book more = both_false (nat_le (length book) 65535) (list_all is_plain_byte book) (list_all is_plain_record (lines_of book)) (lt-leb (length book) 65535 more)
-
-one_only : (b : Bool) → b ≡ true → b ≡ false → ⊥
-one_only true t f = cc
-one_only false t f = cc
+too_big book more = ap (λ few. few && list_all is_plain_byte book && list_all is_plain_record (lines_of book)) (lt-leb (length book) 65535 more)
 
 big_loaded : (cells : Option Cells) (book taken : List ℕ) → is_plain_book taken ≡ false → is_plain_book book ≡ false → IsLoaded cells taken → IsLoaded cells book
 big_loaded None book taken small big loaded = big
-big_loaded (Some cells) book taken small big loaded = absurd (one_only (is_plain_book taken) loaded.0 small)
+big_loaded (Some cells) book taken small big loaded = absurd (both_ways (is_plain_book taken) small loaded.0)
 
-by_size : (cells : Option Cells) (book taken : List ℕ) → taken ≡ take (65535 + 1) book → ((nat_le (length book) 65535 ≡ true) × (length book ≤ 65535)) ⊎ ((nat_le (length book) 65535 ≡ false) × (65535 < length book)) → IsLoaded cells taken → IsLoaded cells book
-by_size cells book taken taken_is (inl (t, few)) loaded =
-    let fits : length book ≤ 65535 + 1 = omega (arith, few) in
-    let same : taken ≡ book = taken_is ∙ take_all (65535 + 1) book fits in
-    subst (IsLoaded cells) same loaded
+by_size : (cells : Option Cells) (book taken : List ℕ) → taken ≡ take (65535 + 1) book → ((nat_le (length taken) 65535 ≡ true) × (length taken ≤ 65535)) ⊎ ((nat_le (length taken) 65535 ≡ false) × (65535 < length taken)) → IsLoaded cells taken → IsLoaded cells book
+by_size cells book taken taken_is (inl (t, few)) loaded = subst (IsLoaded cells) (whole 65535 taken book taken_is few) loaded
 by_size cells book taken taken_is (inr (t, more)) loaded =
-    let counts : length taken ≡ min (65535 + 1) (length book) = ap length taken_is ∙ length-take (65535 + 1) book in
-    let big : 65535 < length taken = omega (arith, counts, more) in
-    big_loaded cells book taken (too_big taken big) (too_big book more) loaded
+    big_loaded cells book taken (too_big taken more) (too_big book (ltb-true 65535 (length book) (longer 65535 taken book taken_is more))) loaded
 
 pub loaded_whole : (cells : Option Cells) (book taken : List ℕ) → taken ≡ take (65535 + 1) book → IsLoaded cells taken → IsLoaded cells book
-loaded_whole cells book taken taken_is loaded = by_size cells book taken taken_is (leb_tells (length book) 65535) loaded
+loaded_whole cells book taken taken_is loaded = by_size cells book taken taken_is (leb_tells (length taken) 65535) loaded

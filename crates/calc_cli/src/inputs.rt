@@ -7,14 +7,11 @@ ghost use Rattle.calc_io.specs.Faults.{Rose};
 
 use crate::input::{Input, ReadFault, read_all};
 use calc_addr::NoMemory;
-use calc_book::{BookFault, read_book};
+use calc_book::{BookFault, MOST_BYTES, read_book};
 use calc_io::Desk;
 use calc_model::Text;
 use plain_evaluator::Cells;
 use std::alloc::{AllocError, Global};
-
-/// The most bytes that a book may have so far.
-const MOST_BOOK_BYTES: usize = 65_535;
 
 /// The most bytes that a script may have.
 const MOST_SCRIPT_BYTES: usize = 16_777_216;
@@ -69,7 +66,7 @@ fn load_book<D: Desk>(alloc: Global, desk: &mut D, name: &Text) -> Result<Option
     ensures no_fault { IsTrue (D.calm desk.old) → IsSome (told_book (D.books desk.old) name.now) → D.faults desk.new ≡ D.faults desk.old }
 {
     desk.open_book(name)?;
-    let book = read_all(alloc, desk, Input::Book, MOST_BOOK_BYTES)?;
+    let book = read_all(alloc, desk, Input::Book, MOST_BYTES)?;
     let cells = cells_of(alloc, &book)?;
     Ok(cells)
 }

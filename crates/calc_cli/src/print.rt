@@ -17,16 +17,16 @@ fn fill_record(
     cells: &Cells,
     results: &Results,
     row: Area,
-    record: &mut ByteRecord,
+    texts: &mut ByteRecord,
 ) -> Result<(), NoMemory>
-    ensures { OnOk result (fields_of record.new ≡ row_texts (shown_by (book_of cells.now.entries) (results_of results.now.entries)) row) }
+    ensures { OnOk result (fields_of texts.new ≡ row_texts (shown_by (book_of cells.now.entries) (results_of results.now.entries)) row) }
 {
     let mut text = Vec::new(alloc);
-    record.clear();
+    texts.clear();
     for cell in row.cells() {
         text.clear();
         show_cell(cells, results, cell, &mut text)?;
-        record.push_field(&text)?;
+        texts.push_field(&text)?;
     }
     Ok(())
 }
@@ -57,10 +57,10 @@ fn writer_to(out: Vec<u8>) -> Writer<Vec<u8>>
 }
 
 /// Writes one record. All records of an area have one length, so only memory can be wanting.
-fn write_record(writer: &mut Writer<Vec<u8>>, record: &ByteRecord) -> Result<(), NoMemory>
-    ensures { (bytes : List ℕ) → Holds writer.old bytes → OnOk result (Holds writer.new (bytes ++ record_text (fields_of record.now))) }
+fn write_record(writer: &mut Writer<Vec<u8>>, texts: &ByteRecord) -> Result<(), NoMemory>
+    ensures { (bytes : List ℕ) → Holds writer.old bytes → OnOk result (Holds writer.new (bytes ++ record_text (fields_of texts.now))) }
 {
-    match writer.write_byte_record(record) {
+    match writer.write_byte_record(texts) {
         Ok(()) => Ok(()),
         Err(_) => Err(AllocError),
     }

@@ -12,6 +12,6 @@ abbrev pub invariant-loop-cell : goal.invariant-loop-cell
 invariant-loop-cell l =
     let values = shown_by (book_of l.cells.entries) (results_of l.results.entries) in
     record {
-      texts : fields_of l.record ++ map (λ cell. text_of (values cell)) l.cell-iterator ≡ row_texts values l.fn.row;
-      whole : partial_of l.record ≡ [];
+      texts : fields_of l.texts ++ map (λ cell. text_of (values cell)) l.cell-iterator ≡ row_texts values l.fn.row;
+      whole : partial_of l.texts ≡ [];
     }
