@@ -24,7 +24,7 @@ pub use laws::{
     spelled_words_lie_inside,
 };
 pub use moves::move_ref;
-pub use read::{Spelled, read_area, read_cell, read_col, read_row};
+pub use read::{Spelled, read_address, read_area, read_cell, read_col, read_row};
 pub use reference::{Marks, Ref, Span};
 pub use shift::{delete_row_area, delete_row_ref, insert_row_area, insert_row_ref};
 use std::alloc::AllocError;

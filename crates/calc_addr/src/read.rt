@@ -88,7 +88,8 @@ fn both<A: Drop, B: Drop>(first: Spelled<A>, second: Spelled<B>) -> Spelled<(A, 
     }
 }
 
-fn read_address(text: &[u8]) -> Spelled<Cell>
+/// A cell's address without a sheet, as `B2` or `$b$2`, on the first sheet. Linear in the text.
+pub fn read_address(text: &[u8]) -> Spelled<Cell>
     ensures { result ≡ spelled_address text.now }
 {
     let (col, row) = cell_parts(text);

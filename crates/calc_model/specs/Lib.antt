@@ -10,3 +10,9 @@ pub mod FixedPoint
 pub mod Results
 pub mod Formulas
 pub mod Fields
+pub mod Tokens
+pub mod Grammar
+pub mod Limits
+pub mod Formed
+pub mod Printed
+pub mod Field

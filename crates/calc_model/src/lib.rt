@@ -5,6 +5,7 @@
 mod content;
 mod edit;
 mod fault;
+mod identifier;
 mod laws;
 mod list;
 mod looked;
@@ -15,6 +16,7 @@ mod value;
 pub use content::{Constant, Content, Formula};
 pub use edit::Edit;
 pub use fault::Fault;
+pub use identifier::{begins_identifier, is_identifier, is_in_identifier, is_name, is_utf8};
 pub use laws::fixed_point;
 pub use list::List;
 pub use looked::Looked;
