@@ -11,3 +11,4 @@ pub mod Readiness
 pub mod Building
 mod FieldExamples
 mod ShownExamples
+pub mod Reached

@@ -16,3 +16,5 @@ pub mod Limits
 pub mod Formed
 pub mod Printed
 pub mod Field
+pub mod Step
+pub mod Stale

@@ -17,7 +17,7 @@ pub use content::{Constant, Content, Formula};
 pub use edit::Edit;
 pub use fault::Fault;
 pub use identifier::{begins_identifier, is_identifier, is_in_identifier, is_name, is_utf8};
-pub use laws::fixed_point;
+pub use laws::{fixed_point, rounds_reach_all};
 pub use list::List;
 pub use looked::Looked;
 pub use text::Text;
