@@ -1,6 +1,6 @@
 -- Sheets, cells and areas. Sixteen sheets with the numbers 0 to 15, each of 1,024 columns and
 -- 1,048,576 rows, which are counted from 1.
-use Rattle.std.specs.Prelude.{◌≡◌, ℕ, Bool, true, ◌+◌, ◌-◌, ◌≤◌, ◌&&◌, ◌==◌, nat_le, nat_lt, if◌then◌else◌, List, [], ◌++◌, map, Option, None, Some}
+use Rattle.std.specs.Prelude.{◌≡◌, ℕ, Bool, true, ◌+◌, ◌-◌, ◌*◌, ◌≤◌, ◌&&◌, ◌==◌, nat_le, nat_lt, if◌then◌else◌, List, [], ◌++◌, map, Option, None, Some}
 use Rattle.std.specs.List.{flat_map, range_with_len}
 use Rattle.std.specs.Ordering.{nat_cmp, ordering_then}
 use Rattle.std.specs.declared.cmp.Ordering.{Ordering}
@@ -52,6 +52,10 @@ covers a p =
     (p.sheet == a.sheet)
     && nat_le a.first_col p.col && nat_le p.col a.last_col
     && nat_le a.first_row p.row && nat_le p.row a.last_row
+
+-- how many cells the rectangle has
+abbrev pub cell_count : Rectangle → ℕ
+cell_count a = (a.last_col - a.first_col + 1) * (a.last_row - a.first_row + 1)
 
 -- the numbers from first to last
 abbrev pub from_to : ℕ → ℕ → List ℕ

@@ -83,3 +83,28 @@ impl Model for Run {
 
     ghost inverse = { λ r. record { sheet = r.sheet; col = r.col; first = r.first; last = r.last } };
 }
+
+impl Area {
+    ghost use Rattle.calc_addr.specs.Cells.{cell_count, covers};
+    ghost use Rattle.std.specs.Prelude.{◌≡◌};
+
+    /// Whether the cell is one of the area's.
+    pub fn covers(self, cell: Cell) -> bool
+        ensures { result ≡ covers self cell }
+    {
+        cell.sheet == self.sheet
+            && self.first_col <= cell.col
+            && cell.col <= self.last_col
+            && self.first_row <= cell.row
+            && cell.row <= self.last_row
+    }
+
+    /// How many cells it has.
+    pub fn cell_count(self) -> u64
+        ensures { result ≡ cell_count self }
+    {
+        let cols = u64::from(self.last_col - self.first_col) + 1;
+        let rows = u64::from(self.last_row - self.first_row) + 1;
+        cols * rows
+    }
+}

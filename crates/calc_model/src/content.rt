@@ -103,6 +103,15 @@ impl Formula {
 }
 
 impl Content {
+    ghost use Rattle.calc_model.specs.Books.{is_held};
+
+    /// Whether it is the content of a cell that isn't empty.
+    pub fn is_held(&self) -> bool
+        ensures { result ≡ is_held self.now }
+    {
+        !matches!(self, Content::Empty)
+    }
+
     /// An equal content.
     pub fn copy(&self, alloc: Global) -> Result<Content, NoMemory>
         ensures { IfOk result (λ c. c ≡ self.now) }

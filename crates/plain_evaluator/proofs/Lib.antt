@@ -1,3 +1,5 @@
 pub mod Lookups
-pub mod ReadyTrees
 pub mod Sweeps
+pub mod TreeAreas
+pub mod Covered
+pub mod Readiness

@@ -55,7 +55,7 @@ held_entry : (o : Option Content) (tree : Tree) → unwrap_or o Empty ≡ Formul
 held_entry (Some x) tree h = (x, refl)
 held_entry None tree h = cc
 
-found_entry : (cells : List (Place × Content)) (cell : Place) (tree : Tree) → content_at (book_of cells) cell ≡ Formula tree → (x : Content) × (find place_cmp cell cells ≡ Some x)
+pub found_entry : (cells : List (Place × Content)) (cell : Place) (tree : Tree) → content_at (book_of cells) cell ≡ Formula tree → (x : Content) × (find place_cmp cell cells ≡ Some x)
 unfolding content_at
 found_entry cells cell tree at = held_entry (find place_cmp cell cells) tree at
 
@@ -107,7 +107,7 @@ none_copied None h = refl
 none_copied (Some x) h = cc
 
 -- what each key of a list passes, a key passes that is found in it
-list_all-find : (p : Place → Bool) (cells : List (Place × Content)) (q : Place) (x : Content) → list_all (λ entry. p entry.0) cells ≡ true → find place_cmp q cells ≡ Some x → p q ≡ true
+pub list_all-find : (p : Place → Bool) (cells : List (Place × Content)) (q : Place) (x : Content) → list_all (λ entry. p entry.0) cells ≡ true → find place_cmp q cells ≡ Some x → p q ≡ true
 list_all-find p [] q x all at = cc
 list_all-find p (e ∷ es) q x all at =
     let parts = both_true (p e.0) (list_all (λ entry. p entry.0) es) all in

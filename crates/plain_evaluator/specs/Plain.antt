@@ -7,13 +7,19 @@ use Rattle.calc_model.specs.declared.content.Content.{Content}
 use Rattle.calc_model.specs.declared.value.Value.{Value}
 use Rattle.calc_num.specs.Decimals.{checked}
 use Rattle.calc_model.specs.declared.fault.Fault.{Fault}
+use Rattle.calc_model.specs.declared.looked.Looked.TheVariants.{Absent}
 use Rattle.calc_model.specs.Books.{Book}
+use Rattle.calc_model.specs.Reads.{Names}
 use Rattle.calc_model.specs.Scalars.{with_number, value_of}
 use Rattle.calc_model.specs.Results.{Results, is_known, is_ready}
 
 -- the book with these cells
 abbrev pub book_of : List (Place × Content) → Book
 book_of cells = record { cells = cells; names = [] }
+
+-- no name stands for anything
+abbrev pub no_names : Names
+no_names name = Absent
 
 -- the results that a map has
 unfoldable pub results_of : List (Place × Value) → Results

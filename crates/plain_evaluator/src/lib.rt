@@ -5,13 +5,12 @@
 //! book whose formulas read to the left and above takes one sweep.
 #![tactic(auto)]
 
+mod areas;
 mod eval;
 mod known;
 mod maps;
-mod ready;
 mod sweep;
 
-pub use known::is_known;
-pub use maps::{Cells, Results, show_cell};
-pub use ready::is_ready;
+pub use areas::push_areas;
+pub use maps::{Cells, Results, set_content, show_cell};
 pub use sweep::evaluate;

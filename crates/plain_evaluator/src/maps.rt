@@ -1,6 +1,6 @@
 ghost use Rattle.std.specs.Prelude.{◌≡◌, ◌++◌, unwrap_or, OnOk, OnErr};
 ghost use Rattle.std.specs.Option.{option_copied};
-ghost use Rattle.calc_model.specs.Books.{content_at};
+ghost use Rattle.calc_model.specs.Books.{content_at, with_content};
 ghost use Rattle.calc_model.specs.Values.{text_of};
 ghost use Rattle.calc_model.specs.Results.{shown_by};
 ghost use Rattle.plain_evaluator.specs.Plain.{book_of, results_of};
@@ -20,6 +20,19 @@ pub(crate) fn content_of(cells: &Cells, cell: Cell) -> Option<&Content>
     ensures { content_at (book_of cells.now.entries) cell ≡ unwrap_or (option_copied result) Content.Empty }
 {
     cells.get(&cell)
+}
+
+/// Puts a content into a cell, or empties it. Where memory is refused, the map is as before.
+pub fn set_content(cells: &mut Cells, cell: Cell, content: Content) -> Result<(), NoMemory>
+    ensures ok { OnOk result (cells.new.entries ≡ with_content cells.old.entries cell content) }
+    ensures err { OnErr result (cells.new.entries ≡ cells.old.entries) }
+{
+    if content.is_held() {
+        cells.insert(cell, content)?;
+    } else {
+        cells.remove(&cell);
+    }
+    Ok(())
 }
 
 /// A formula's result, if it is known.

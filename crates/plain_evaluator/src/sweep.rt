@@ -4,10 +4,11 @@ ghost use Rattle.calc_model.specs.Eval.{top};
 ghost use Rattle.calc_model.specs.Results.{IsSound, IsFinished, Sets, ShowsAll};
 ghost use Rattle.plain_evaluator.specs.Plain.{book_of, results_of, known_count, is_settled};
 
+use crate::areas::push_areas;
 use crate::eval::eval;
+use crate::known::are_known;
 use crate::maps::{Cells, Results, result_of};
-use crate::ready::is_ready;
-use calc_addr::{Cell, NoMemory};
+use calc_addr::{Area, Cell, NoMemory};
 use calc_model::{Content, Value};
 use calc_num::Num;
 use std::alloc::Global;
@@ -17,33 +18,36 @@ pub fn evaluate(alloc: Global, cells: &Cells) -> Result<Results, NoMemory>
     ensures { IfOk result (λ results. ShowsAll (book_of cells.now.entries) (results_of results.entries)) }
 {
     let mut results = Results::new(alloc);
-    while sweep(cells, &mut results)? {}
+    while sweep(alloc, cells, &mut results)? {}
     Ok(results)
 }
 
 /// Evaluates each formula that is ready and has no result, in the order of cells, and answers whether
 /// there was one.
-fn sweep(cells: &Cells, results: &mut Results) -> Result<bool, NoMemory>
+fn sweep(alloc: Global, cells: &Cells, results: &mut Results) -> Result<bool, NoMemory>
     requires { IsSound (book_of cells.now.entries) (results_of results.old.entries) }
     ensures sound { OnOk result (IsSound (book_of cells.now.entries) (results_of results.new.entries)) }
     ensures more { IfOk result (λ more. more ≡ true → known_count cells.now.entries (results_of results.old.entries) < known_count cells.now.entries (results_of results.new.entries)) }
     ensures finished { IfOk result (λ more. more ≡ false → IsFinished (book_of cells.now.entries) (results_of results.new.entries)) }
 {
     let mut more = false;
+    let mut areas = Vec::new(alloc);
     for (cell, content) in cells {
-        if settle(cells, results, *cell, content)? {
+        if settle(cells, results, *cell, content, &mut areas)? {
             more = true;
         }
     }
     Ok(more)
 }
 
-/// Evaluates the cell's formula where it holds one that is ready and has no result.
+/// Evaluates the cell's formula where it holds one that is ready and has no result. In `areas` it keeps
+/// the areas that it reads.
 fn settle(
     cells: &Cells,
     results: &mut Results,
     cell: Cell,
     content: &Content,
+    areas: &mut Vec<Area>,
 ) -> Result<bool, NoMemory>
     requires sound { IsSound (book_of cells.now.entries) (results_of results.old.entries) }
     requires at { content_at (book_of cells.now.entries) cell ≡ content.now }
@@ -58,7 +62,9 @@ fn settle(
     if result_of(results, cell).is_some() {
         return Ok(false);
     }
-    if !is_ready(cells, results, cell, formula.tree()) {
+    areas.clear();
+    push_areas(cell, formula.tree(), areas)?;
+    if !are_known(cells, results, areas) {
         return Ok(false);
     }
     let value = top(eval(cells, results, cell, formula.tree()));

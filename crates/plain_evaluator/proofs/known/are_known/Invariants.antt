@@ -1,12 +1,11 @@
-use Rattle.std.proofs.Common.{◌≡◌}
-use Rattle.std.specs.List.{list_all}
-use Rattle.calc_addr.specs.Cells.{places}
+use Rattle.std.proofs.Common.{◌≡◌, drop}
+use Rattle.calc_model.specs.Grounded.{all_cells}
 use Rattle.calc_model.specs.Results.{is_known}
 use Rattle.plain_evaluator.specs.Plain.{book_of, results_of}
 use Rattle.plain_evaluator.proofs.known.are_known.Given as goal
 
--- the cells so far are known
-abbrev pub invariant-loop-cell : goal.invariant-loop-cell
-invariant-loop-cell l =
+-- the areas so far are known
+abbrev pub invariant-loop-area : goal.invariant-loop-area
+invariant-loop-area l =
     let known = is_known (book_of l.cells.entries) (results_of l.results.entries) in
-    list_all known (places l.fn.area) ≡ list_all known l.cell-iterator
+    all_cells known l.areas ≡ all_cells known (drop l.area-index l.areas)

@@ -1,0 +1,66 @@
+-- The cells of an area are known where those entries of a map are that the area covers.
+use Rattle.std.proofs.Common.{◌≡◌, ℕ, Bool, true, false, not, ◌||◌, ◌&&◌, List, [], ◌∷◌, refl, sym, ap, subst, ◌∙◌, Some, is_some}
+use Rattle.std.specs.List.{list_all}
+use Rattle.calc_addr.specs.Cells.{Place, Rectangle, covers, places}
+use Rattle.calc_model.specs.declared.content.Content.{Content}
+use Rattle.calc_model.specs.Books.{content_at, is_formula}
+use Rattle.calc_model.specs.Results.{Results, is_known}
+use Rattle.calc_model.proofs.Areas.{places_all, all_places, both_true}
+use Rattle.plain_evaluator.specs.Plain.{book_of}
+use Rattle.calc_model.proofs.Knowing.{unknown}
+use Rattle.plain_evaluator.proofs.Sweeps.{list_all-find, found_entry}
+
+-- the area doesn't cover the cell, or the cell is known
+abbrev pub is_covered_known : List (Place × Content) → Results → Rectangle → Place → Bool
+is_covered_known cells results area cell = not (covers area cell) || is_known (book_of cells) results cell
+
+pub same_tests : (a b : Bool) → (a ≡ true → b ≡ true) → (b ≡ true → a ≡ true) → a ≡ b
+same_tests true b f g = sym (f refl)
+same_tests false true f g = g refl
+same_tests false false f g = refl
+
+or_right : (a b : Bool) → b ≡ true → (a || b) ≡ true
+or_right true b h = refl
+or_right false b h = h
+
+covered_known : (covered known : Bool) → (not covered || known) ≡ true → covered ≡ true → known ≡ true
+covered_known true known h is = h
+covered_known false known h is = cc
+
+-- what every cell passes, each key of a list passes
+each_entry : (test : Place → Bool) (cells : List (Place × Content)) → ((q : Place) → test q ≡ true) → list_all (λ entry. test entry.0) cells ≡ true
+each_entry test [] h = refl
+each_entry test (e ∷ es) h = rw (h e.0, each_entry test es h) refl
+
+module _ (cells : List (Place × Content)) (results : Results) (area : Rectangle) where
+  abbrev known : Place → Bool
+  known = is_known (book_of cells) results
+
+  from_places : list_all known (places area) ≡ true → list_all (λ entry. is_covered_known cells results area entry.0) cells ≡ true
+  from_places all =
+      each_entry (is_covered_known cells results area) cells (λ q. elim (covers area q) as (λ b. covers area q ≡ b → (not b || known q) ≡ true) [
+        | true ↦ λ covered. places_all known area all q covered
+        | false ↦ λ apart. refl
+      ] refl)
+
+  to_places : list_all (λ entry. is_covered_known cells results area entry.0) cells ≡ true → list_all known (places area) ≡ true
+  to_places all =
+      all_places known area (λ q covered. elim (known q) as (λ b. known q ≡ b → b ≡ true) [
+        | true ↦ λ is. refl
+        | false ↦ λ is_not.
+            let u = unknown (content_at (book_of cells) q) (results q) is_not in
+            let entry = found_entry cells q u.tree u.at in
+            let passes : is_covered_known cells results area q ≡ true = list_all-find (is_covered_known cells results area) cells q entry.0 all entry.1 in
+            let known_here : known q ≡ true = covered_known (covers area q) (known q) passes covered in
+            cc
+      ] refl)
+
+  -- the cells of the area are known where the entries are that it covers
+  pub entries_known : list_all (λ entry. is_covered_known cells results area entry.0) cells ≡ list_all known (places area)
+  entries_known = same_tests _ _ to_places from_places
+
+-- an entry that is covered and not known fails the test of all
+pub fails_first : (covered known rest : Bool) → covered ≡ true → known ≡ false → ((not covered || known) && rest) ≡ false
+fails_first true true rest is is_not = cc
+fails_first true false rest is is_not = refl
+fails_first false known rest is is_not = cc
