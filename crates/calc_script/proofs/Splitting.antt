@@ -22,10 +22,10 @@ pub words_without_spaces : (text : List ℕ) → words_of text ≡ words_of (wit
 words_without_spaces [] = refl
 words_without_spaces (x ∷ xs) =
     let by_first : (b : Bool) → is_space x ≡ b → words_of (x ∷ xs) ≡ words_of (drop (cond b (1 + prefix_len is_space xs) 0) (x ∷ xs)) =
-        λ b. elim b as (λ v. is_space x ≡ v → words_of (x ∷ xs) ≡ words_of (drop (cond v (1 + prefix_len is_space xs) 0) (x ∷ xs))) [
-          | true ↦ λ h. past_space x xs h ∙ words_without_spaces xs ∙ ap words_of (sym (longer_drop (prefix_len is_space xs) x xs))
-          | false ↦ λ h. refl
-        ]
+    λ b. elim b as (λ v. is_space x ≡ v → words_of (x ∷ xs) ≡ words_of (drop (cond v (1 + prefix_len is_space xs) 0) (x ∷ xs))) [
+      | true ↦ λ h. past_space x xs h ∙ words_without_spaces xs ∙ ap words_of (sym (longer_drop (prefix_len is_space xs) x xs))
+      | false ↦ λ h. refl
+    ]
     in by_first (is_space x) refl
 
 -- a text without a space is one part
@@ -33,10 +33,10 @@ one_part : (xs : List ℕ) → length xs ≤ position_or_len is_space xs → sli
 one_part [] h = refl
 one_part (x ∷ xs) h =
     let by_first : (b : Bool) → is_space x ≡ b → length (x ∷ xs) ≤ cond (not b) (1 + position_or_len is_space xs) 0 → slice_split is_space (x ∷ xs) ≡ (x ∷ xs) ∷ [] =
-        λ b. elim b as (λ v. is_space x ≡ v → length (x ∷ xs) ≤ cond (not v) (1 + position_or_len is_space xs) 0 → slice_split is_space (x ∷ xs) ≡ (x ∷ xs) ∷ []) [
-          | true ↦ λ e l. absurd (omega arith)
-          | false ↦ λ e l. let l' : length xs ≤ position_or_len is_space xs = omega arith in slice_split-cons_no is_space x xs e ∙ ap (onto_first x) (one_part xs l')
-        ]
+    λ b. elim b as (λ v. is_space x ≡ v → length (x ∷ xs) ≤ cond (not v) (1 + position_or_len is_space xs) 0 → slice_split is_space (x ∷ xs) ≡ (x ∷ xs) ∷ []) [
+      | true ↦ λ e l. absurd (omega arith)
+      | false ↦ λ e l. let l' : length xs ≤ position_or_len is_space xs = omega arith in slice_split-cons_no is_space x xs e ∙ ap (onto_first x) (one_part xs l')
+    ]
     in by_first (is_space x) refl h
 
 -- the parts of a text: what stands before its first space, and those of what follows, but for empty ones
@@ -45,11 +45,11 @@ unfolding words_of
 first_part xs = elim (cases_lt (position_or_len is_space xs) (length xs)) [
   | inl some ↦ ap (filter has_bytes) (slice_split_first is_space xs 0 some)
   | inr none ↦
-    let whole : up_to_space xs ≡ xs = take_all (position_or_len is_space xs) xs none in
-    let ends : length xs ≤ position_or_len is_space xs + 1 = omega arith in
-    let nothing : behind_space xs ≡ [] = drop_all (position_or_len is_space xs + 1) xs ends in
-    ap (filter has_bytes) (one_part xs none)
-    ∙ sym (ap (λ w. filter has_bytes (w ∷ slice_split is_space (behind_space xs))) whole ∙ ap (λ r. filter has_bytes (xs ∷ slice_split is_space r)) nothing)
+      let whole : up_to_space xs ≡ xs = take_all (position_or_len is_space xs) xs none in
+      let ends : length xs ≤ position_or_len is_space xs + 1 = omega arith in
+      let nothing : behind_space xs ≡ [] = drop_all (position_or_len is_space xs + 1) xs ends in
+      ap (filter has_bytes) (one_part xs none)
+      ∙ sym (ap (λ w. filter has_bytes (w ∷ slice_split is_space (behind_space xs))) whole ∙ ap (λ r. filter has_bytes (xs ∷ slice_split is_space r)) nothing)
 ]
 
 begins : (x : ℕ) (xs : List ℕ) → is_space x ≡ false → has_bytes (up_to_space (x ∷ xs)) ≡ true
@@ -70,10 +70,10 @@ no_space_left : (text : List ℕ) (x : ℕ) (xs : List ℕ) → without_spaces t
 no_space_left [] x xs h = cc
 no_space_left (y ∷ ys) x xs h =
     let by_first : (b : Bool) → is_space y ≡ b → drop (cond b (1 + prefix_len is_space ys) 0) (y ∷ ys) ≡ x ∷ xs → is_space x ≡ false =
-        λ b. elim b as (λ v. is_space y ≡ v → drop (cond v (1 + prefix_len is_space ys) 0) (y ∷ ys) ≡ x ∷ xs → is_space x ≡ false) [
-          | true ↦ λ e d. no_space_left ys x xs (sym (longer_drop (prefix_len is_space ys) y ys) ∙ d)
-          | false ↦ λ e d. cc
-        ]
+    λ b. elim b as (λ v. is_space y ≡ v → drop (cond v (1 + prefix_len is_space ys) 0) (y ∷ ys) ≡ x ∷ xs → is_space x ≡ false) [
+      | true ↦ λ e d. no_space_left ys x xs (sym (longer_drop (prefix_len is_space ys) y ys) ∙ d)
+      | false ↦ λ e d. cc
+    ]
     in by_first (is_space y) refl h
 
 pub no_word : (text : List ℕ) → without_spaces text ≡ [] → words_of text ≡ []
@@ -83,8 +83,8 @@ no_word text h = words_without_spaces text ∙ ap words_of h
 pub next_word : (text : List ℕ) → without_spaces text ≢ [] → words_of text ≡ up_to_space (without_spaces text) ∷ words_of (behind_space (without_spaces text))
 next_word text h =
     let at : (bs : List ℕ) → without_spaces text ≡ bs → words_of bs ≡ up_to_space bs ∷ words_of (behind_space bs) =
-        λ bs. elim bs as (λ bs. without_spaces text ≡ bs → words_of bs ≡ up_to_space bs ∷ words_of (behind_space bs)) [
-          | [] ↦ λ e. absurd (h e)
-          | x ∷ xs ↦ λ e. first_word x xs (no_space_left text x xs e)
-        ]
+    λ bs. elim bs as (λ bs. without_spaces text ≡ bs → words_of bs ≡ up_to_space bs ∷ words_of (behind_space bs)) [
+      | [] ↦ λ e. absurd (h e)
+      | x ∷ xs ↦ λ e. first_word x xs (no_space_left text x xs e)
+    ]
     in words_without_spaces text ∙ at (without_spaces text) refl

@@ -14,7 +14,7 @@ text_passes bs u = is_utf8-from_IsUtf8 bs u
 pub other_bytes_fail : (bs : List ℕ) → ¬ (IsUtf8 bs) → is_utf8 bs ≡ false
 other_bytes_fail bs n =
     let by_test : (b : Bool) → is_utf8 bs ≡ b → b ≡ false =
-        λ b. elim b as (λ v. is_utf8 bs ≡ v → v ≡ false) [ true ↦ λ e. absurd (n (IsUtf8-from_is_utf8 bs e)) | false ↦ λ e. refl ]
+    λ b. elim b as (λ v. is_utf8 bs ≡ v → v ≡ false) [ true ↦ λ e. absurd (n (IsUtf8-from_is_utf8 bs e)) | false ↦ λ e. refl ]
     in by_test (is_utf8 bs) refl
 
 behind_ascii : (bs : List ℕ) (i : ℕ) → IsUtf8 bs → i < length bs → get_or bs i 0 < 128 → IsUtf8 (drop (i + 1) bs)
@@ -34,10 +34,10 @@ pub without_spaces_text : (bs : List ℕ) → IsUtf8 bs → IsUtf8 (without_spac
 without_spaces_text [] u = IsUtf8-nil
 without_spaces_text (x ∷ xs) u =
     let by_first : (b : Bool) → is_space x ≡ b → IsUtf8 (drop (cond b (1 + prefix_len is_space xs) 0) (x ∷ xs)) =
-        λ b. elim b as (λ v. is_space x ≡ v → IsUtf8 (drop (cond v (1 + prefix_len is_space xs) 0) (x ∷ xs))) [
-          | true ↦ λ h. subst IsUtf8 (sym (longer_drop (prefix_len is_space xs) x xs)) (without_spaces_text xs (behind_ascii (x ∷ xs) 0 u (omega arith) (space_is_ascii x h)))
-          | false ↦ λ h. u
-        ]
+    λ b. elim b as (λ v. is_space x ≡ v → IsUtf8 (drop (cond v (1 + prefix_len is_space xs) 0) (x ∷ xs))) [
+      | true ↦ λ h. subst IsUtf8 (sym (longer_drop (prefix_len is_space xs) x xs)) (without_spaces_text xs (behind_ascii (x ∷ xs) 0 u (omega arith) (space_is_ascii x h)))
+      | false ↦ λ h. u
+    ]
     in by_first (is_space x) refl
 
 pub behind_space_text : (bs : List ℕ) → IsUtf8 bs → IsUtf8 (behind_space bs)

@@ -18,5 +18,5 @@ returns c =
     let some : (length front == 0) ≡ false = sym c.is_empty.ensures ∙ c.if-is_empty.false in
     let left : without_spaces c.args.text.now ≢ [] = λ e. eqb-false (length front) 0 some (ap length (c.without_spaces-text.ensures ∙ e)) in
     let words : up_to_space (without_spaces c.args.text.now) ∷ words_of (behind_space (without_spaces c.args.text.now)) ≡ c.cut_word.result.0.now ∷ words_of c.cut_word.result.1.now =
-        rw (c.cut_word.ensures.word, c.cut_word.ensures.rest, c.without_spaces-text.ensures)
+    rw (c.cut_word.ensures.word, c.cut_word.ensures.rest, c.without_spaces-text.ensures)
     in next_word c.args.text.now left ∙ words
