@@ -1,12 +1,13 @@
 -- Texts that are cut at spaces are texts, and the test of a text.
-use Rattle.std.proofs.Common.{◌≡◌, ℕ, suc, ◌+◌, ◌<◌, ◌≤◌, ◌==◌, Bool, true, false, not, cond, List, [], ◌∷◌, length, take, drop, get_or, refl, sym, ap, subst, ◌∙◌, inl, inr, arith}
+use Rattle.std.proofs.Common.{◌≡◌, ℕ, ◌+◌, ◌<◌, ◌≤◌, Bool, true, false, not, cond, List, [], ◌∷◌, length, drop, get_or, refl, sym, subst, inl, inr, arith}
 use Rattle.std.specs.List.{position_or_len, prefix_len}
 use Rattle.std.specs.Str.{IsUtf8, is_utf8}
 use Rattle.std.proofs.lemmas.Str.{IsUtf8-nil, IsUtf8-drop, IsUtf8-from_is_utf8, is_utf8-from_IsUtf8, IsCharBoundary-after_ascii}
 use Rattle.std.proofs.lemmas.List.{drop_all}
 use Rattle.std.proofs.lemmas.List.Sums.{prefix_len_stops}
 use Rattle.std.proofs.lemmas.Bool.{cases_lt}
-use Rattle.calc_script.specs.Words.{is_space, without_spaces, up_to_space, behind_space}
+use Rattle.calc_script.proofs.Splitting.{longer_drop}
+use Rattle.calc_script.specs.Words.{is_space, without_spaces, behind_space}
 
 pub text_passes : (bs : List ℕ) → IsUtf8 bs → is_utf8 bs ≡ true
 text_passes bs u = is_utf8-from_IsUtf8 bs u
@@ -27,9 +28,6 @@ passes false h = cc
 space_is_ascii : (x : ℕ) → is_space x ≡ true → x < 128
 space_is_ascii x h = grind (arith, h)
 
-longer_drop : (n x : ℕ) (xs : List ℕ) → drop (1 + n) (x ∷ xs) ≡ drop n xs
-longer_drop n x xs = let e : 1 + n ≡ suc n = omega arith in ap (λ k. drop k (x ∷ xs)) e
-
 pub without_spaces_text : (bs : List ℕ) → IsUtf8 bs → IsUtf8 (without_spaces bs)
 without_spaces_text [] u = IsUtf8-nil
 without_spaces_text (x ∷ xs) u =
@@ -41,7 +39,13 @@ without_spaces_text (x ∷ xs) u =
     in by_first (is_space x) refl
 
 pub behind_space_text : (bs : List ℕ) → IsUtf8 bs → IsUtf8 (behind_space bs)
-behind_space_text bs u = elim (cases_lt (position_or_len is_space bs) (length bs)) [
-  | inl some ↦ behind_ascii bs (position_or_len is_space bs) u some (space_is_ascii (get_or bs (position_or_len is_space bs) 0) (passes (is_space (get_or bs (position_or_len is_space bs) 0)) (prefix_len_stops (λ x. not (is_space x)) bs 0 some)))
-  | inr none ↦ let ends : length bs ≤ position_or_len is_space bs + 1 = omega arith in subst IsUtf8 (sym (drop_all (position_or_len is_space bs + 1) bs ends)) IsUtf8-nil
-]
+behind_space_text bs u =
+    let at : ℕ = position_or_len is_space bs in
+    elim (cases_lt at (length bs)) [
+      | inl some ↦
+          let space : is_space (get_or bs at 0) ≡ true = passes (is_space (get_or bs at 0)) (prefix_len_stops (λ x. not (is_space x)) bs 0 some) in
+          behind_ascii bs at u some (space_is_ascii (get_or bs at 0) space)
+      | inr none ↦
+          let ends : length bs ≤ at + 1 = omega arith in
+          subst IsUtf8 (sym (drop_all (at + 1) bs ends)) IsUtf8-nil
+    ]

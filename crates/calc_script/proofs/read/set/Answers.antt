@@ -1,7 +1,6 @@
 -- The field is cut from the text at a space.
 use Rattle.std.proofs.Common.{sym, subst}
 use Rattle.std.specs.Str.{IsUtf8}
-use Rattle.calc_script.specs.Words.{without_spaces}
 use Rattle.calc_script.proofs.TextCuts.{behind_space_text, without_spaces_text}
 use Rattle.calc_script.proofs.read.set.Goals as goal
 
