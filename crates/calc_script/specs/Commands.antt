@@ -30,9 +30,9 @@ cause_word CellsFull = codes "cells-full"
 cause_word NoWatcher = codes "no-watcher"
 
 -- a command with what was read for it, or why it is refused
-abbrev pub done : {A : Type 0} → (A → Command) → Result A Cause → Line
-done command (Ok read) = Do (command read)
-done command (Err cause) = Refused cause
+abbrev pub line_with : {A : Type 0} → (A → Command) → Result A Cause → Line
+line_with command (Ok read) = Do (command read)
+line_with command (Err cause) = Refused cause
 
 -- an address, which must have its form, and then lie in the sheets
 abbrev pub address_of : {A : Type 0} → Spelled A → Result A Cause
@@ -54,36 +54,36 @@ abbrev pub few_cells : Result Rectangle Cause → Result Rectangle Cause
 few_cells (Ok area) = if nat_le (cell_count area) 65536 then Ok area else Err TooLarge
 few_cells (Err cause) = Err cause
 
--- the words of a command that has none
-abbrev pub no_word : List (List ℕ) → Line
-no_word [] = Do Calc
-no_word (word ∷ words) = Refused BadCommand
+-- a command that has no other word
+abbrev pub bare_line : Command → List (List ℕ) → Line
+bare_line command [] = Do command
+bare_line command (word ∷ words) = Refused BadCommand
 
 -- a cell, one space, and the field, which has a byte at least
-abbrev pub set_cell : List ℕ → List ℕ → Line
-set_cell address field =
+abbrev pub set_line : List ℕ → List ℕ → Line
+set_line address field =
     if length field == 0 then Refused BadCommand
-    else done (λ cell. Edit (Set cell (field_of field))) (address_of (spelled_cell address))
+    else line_with (λ cell. Edit (Set cell (field_of field))) (address_of (spelled_cell address))
 
 -- `set CELL FIELD`
 unfoldable pub set_of : List ℕ → Line
-set_of rest = set_cell (up_to_space (without_spaces rest)) (behind_space (without_spaces rest))
+set_of rest = set_line (up_to_space (without_spaces rest)) (behind_space (without_spaces rest))
 
 -- `clear AREA`
 unfoldable pub clear_of : List ℕ → Line
-clear_of rest = done (λ area. Edit (Clear area)) (area_of (words_of rest))
+clear_of rest = line_with (λ area. Edit (Clear area)) (area_of (words_of rest))
 
 -- `calc`
 unfoldable pub calc_of : List ℕ → Line
-calc_of rest = no_word (words_of rest)
+calc_of rest = bare_line Calc (words_of rest)
 
 -- `print AREA`
 unfoldable pub print_of : List ℕ → Line
-print_of rest = done Print (few_cells (area_of (words_of rest)))
+print_of rest = line_with Print (few_cells (area_of (words_of rest)))
 
 -- `formulas AREA`
 unfoldable pub formulas_of : List ℕ → Line
-formulas_of rest = done Formulas (few_cells (area_of (words_of rest)))
+formulas_of rest = line_with Formulas (few_cells (area_of (words_of rest)))
 
 -- what a command does, by its name, with what follows the space behind it
 abbrev pub forms : List (List ℕ × (List ℕ → Line))
@@ -95,6 +95,7 @@ forms =
     ∷ (codes "formulas", formulas_of)
     ∷ []
 
+-- the line of the form with that name, if there is one
 abbrev pub named_line : List (List ℕ × (List ℕ → Line)) → List ℕ → List ℕ → Line
 named_line [] name rest = Refused BadCommand
 named_line (form ∷ others) name rest = if bytes_eq name form.0 then form.1 rest else named_line others name rest
@@ -102,6 +103,7 @@ named_line (form ∷ others) name rest = if bytes_eq name form.0 then form.1 res
 unfoldable pub command_of : List ℕ → List ℕ → Line
 command_of name rest = named_line forms name rest
 
+-- a line without its return: a command is a text, and its name stands before the first space
 unfoldable pub text_line : List ℕ → Line
 text_line text =
     if is_idle text then Nothing

@@ -1,6 +1,6 @@
 ghost use Rattle.std.specs.Prelude.{◌≡◌, IfOk};
 ghost use Rattle.std.specs.Str.{IsUtf8};
-ghost use Rattle.calc_script.specs.Commands.{area_of, calc_of, cell_count, clear_of, command_of, few_cells, formulas_of, line_of, print_of, set_cell, set_of, text_line};
+ghost use Rattle.calc_script.specs.Commands.{area_of, calc_of, cell_count, clear_of, command_of, few_cells, formulas_of, line_of, print_of, set_line, set_of, text_line};
 ghost use Rattle.calc_script.specs.Words.{behind_space, up_to_space};
 
 use crate::command::{Cause, Command, Line};
@@ -66,7 +66,7 @@ fn set(alloc: Global, rest: &[u8]) -> Result<Line, NoMemory>
 
 fn set_cell(alloc: Global, address: &[u8], field: &[u8]) -> Result<Line, NoMemory>
     requires { IsUtf8 field.now }
-    ensures { IfOk result (λ read. read ≡ set_cell address.now field.now) }
+    ensures { IfOk result (λ read. read ≡ set_line address.now field.now) }
 {
     if field.is_empty() {
         return Ok(Line::Refused(Cause::BadCommand));
@@ -154,4 +154,21 @@ fn cell_count(area: Area) -> u64
     let cols = u64::from(area.last_col - area.first_col) + 1;
     let rows = u64::from(area.last_row - area.first_row) + 1;
     cols * rows
+}
+
+#[cfg(test)]
+mod tests {
+    use super::*;
+    use std::test::Fail;
+
+    #[test]
+    fn lines_are_read(rt: HostRuntime) -> Result<(), Fail> {
+        let set = read_line(rt.alloc(), b"set A1 apples")?;
+        assert!(rt; matches!(&set, Line::Do(Command::Edit(Edit::Set { .. }))));
+        let clear = read_line(rt.alloc(), b"clear A1:B2")?;
+        assert!(rt; matches!(&clear, Line::Do(Command::Edit(Edit::Clear { .. }))));
+        let refused = read_line(rt.alloc(), b"print AMK1")?;
+        assert!(rt; matches!(&refused, Line::Refused(Cause::OffSheet)));
+        Ok(())
+    }
 }
