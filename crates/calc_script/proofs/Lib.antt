@@ -1,1 +1,4 @@
 pub mod Cutting
+pub mod Splitting
+pub mod TextCuts
+mod Examples

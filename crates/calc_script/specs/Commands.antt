@@ -1,66 +1,113 @@
--- The commands that lines spell. A carriage return at a line's end is dropped. A line that is empty, has
--- spaces alone or begins with `#` does nothing. Words are separated by one or more spaces; the first
--- stands at the line's start, and spaces at the end are dropped.
-use Rattle.std.specs.Prelude.{ℕ, ◌+◌, ◌-◌, ◌*◌, ◌==◌, ◌&&◌, ◌||◌, nat_le, Bool, true, false, List, [], ◌∷◌, length, take, drop, codes, nat_eq, slice_get, Option, Some, None, if◌then◌else◌}
-use Rattle.std.specs.List.{list_all, before_first, after_first, prefix_len, starts_with}
-use Rattle.std.specs.Str.{bytes_eq}
+-- The commands that lines spell. A line that is empty, has spaces alone or begins with `#` does nothing.
+-- A command's name stands at the line's start. Its other words must be of its form, then its addresses
+-- must lie in the sheets, and then it must not print more cells than a line may.
+use Rattle.std.specs.Prelude.{ℕ, ◌+◌, ◌-◌, ◌*◌, ◌==◌, nat_le, List, [], ◌∷◌, length, codes, Result, Ok, Err, if◌then◌else◌}
+use Rattle.std.specs.Str.{bytes_eq, is_utf8}
 use Rattle.calc_addr.specs.Cells.{Rectangle}
-use Rattle.calc_addr.specs.Spelling.{spelled_area}
+use Rattle.calc_addr.specs.Spelling.{spelled_area, spelled_cell}
 use Rattle.calc_addr.specs.declared.read.Spelled.{Spelled}
 use Rattle.calc_addr.specs.declared.read.Spelled.TheVariants.{Is, Outside, Not}
+use Rattle.calc_model.specs.declared.edit.Edit.TheVariants.{Set, Clear}
+use Rattle.calc_model.specs.Fields.{field_of}
 use Rattle.calc_script.specs.declared.command.Line.{Line}
 use Rattle.calc_script.specs.declared.command.Line.TheVariants.{Nothing, Do, Refused}
-use Rattle.calc_script.specs.declared.command.Command.TheVariants.{Print}
+use Rattle.calc_script.specs.declared.command.Command.{Command}
+use Rattle.calc_script.specs.declared.command.Command.TheVariants.{Edit, Calc, Print, Formulas}
 use Rattle.calc_script.specs.declared.command.Cause.{Cause}
-use Rattle.calc_script.specs.declared.command.Cause.TheVariants.{BadCommand}
+use Rattle.calc_script.specs.declared.command.Cause.TheVariants.{BadCommand, OffSheet, TooLarge, BadName, NoName, NamesFull, RowsFull, CellsFull, NoWatcher}
+use Rattle.calc_script.specs.Words.{behind_space, is_idle, up_to_space, without_return, without_spaces, words_of}
 
+-- the word that is printed for a cause
 abbrev pub cause_word : Cause → List ℕ
 cause_word BadCommand = codes "command"
+cause_word OffSheet = codes "off-sheet"
+cause_word TooLarge = codes "too-large"
+cause_word BadName = codes "bad-name"
+cause_word NoName = codes "no-name"
+cause_word NamesFull = codes "names-full"
+cause_word RowsFull = codes "rows-full"
+cause_word CellsFull = codes "cells-full"
+cause_word NoWatcher = codes "no-watcher"
 
-abbrev pub is_return : Option ℕ → Bool
-is_return None = false
-is_return (Some byte) = byte == 13
+-- a command with what was read for it, or why it is refused
+abbrev pub line_with : {A : Type 0} → (A → Command) → Result A Cause → Line
+line_with command (Ok read) = Do (command read)
+line_with command (Err cause) = Refused cause
 
-abbrev pub without_return : List ℕ → List ℕ
-without_return line = if is_return (slice_get line (length line - 1)) then take (length line - 1) line else line
+-- an address, which must have its form, and then lie in the sheets
+abbrev pub address_of : {A : Type 0} → Spelled A → Result A Cause
+address_of (Is place) = Ok place
+address_of Outside = Err OffSheet
+address_of Not = Err BadCommand
 
-abbrev pub is_space : ℕ → Bool
-is_space byte = byte == 32
-
-abbrev pub is_idle : List ℕ → Bool
-is_idle text = starts_with nat_eq text (codes "#") || list_all is_space text
-
-abbrev pub without_spaces : List ℕ → List ℕ
-without_spaces text = drop (prefix_len is_space text) text
-
--- the first word, and what follows the spaces behind it
-abbrev pub word_of : List ℕ → List ℕ
-word_of text = before_first is_space text
-
-abbrev pub behind_word : List ℕ → List ℕ
-behind_word text = without_spaces (after_first is_space text)
+-- the words of a command that has one area and no more
+unfoldable pub area_of : List (List ℕ) → Result Rectangle Cause
+area_of [] = Err BadCommand
+area_of (area ∷ []) = address_of (spelled_area area)
+area_of (area ∷ other ∷ words) = Err BadCommand
 
 abbrev pub cell_count : Rectangle → ℕ
 cell_count a = (a.last_col - a.first_col + 1) * (a.last_row - a.first_row + 1)
 
-abbrev pub print_area : Spelled Rectangle → Line
-print_area (Is area) = if nat_le (cell_count area) 65536 then Do (Print area) else Refused BadCommand
-print_area Outside = Refused BadCommand
-print_area Not = Refused BadCommand
+-- an area of which a line may print every cell
+abbrev pub few_cells : Result Rectangle Cause → Result Rectangle Cause
+few_cells (Ok area) = if nat_le (cell_count area) 65536 then Ok area else Err TooLarge
+few_cells (Err cause) = Err cause
 
+-- a command that has no other word
+abbrev pub bare_line : Command → List (List ℕ) → Line
+bare_line command [] = Do command
+bare_line command (word ∷ words) = Refused BadCommand
+
+-- a cell, one space, and the field, which has a byte at least
+abbrev pub set_line : List ℕ → List ℕ → Line
+set_line address field =
+    if length field == 0 then Refused BadCommand
+    else line_with (λ cell. Edit (Set cell (field_of field))) (address_of (spelled_cell address))
+
+-- `set CELL FIELD`
+unfoldable pub set_of : List ℕ → Line
+set_of rest = set_line (up_to_space (without_spaces rest)) (behind_space (without_spaces rest))
+
+-- `clear AREA`
+unfoldable pub clear_of : List ℕ → Line
+clear_of rest = line_with (λ area. Edit (Clear area)) (area_of (words_of rest))
+
+-- `calc`
+unfoldable pub calc_of : List ℕ → Line
+calc_of rest = bare_line Calc (words_of rest)
+
+-- `print AREA`
 unfoldable pub print_of : List ℕ → Line
-print_of word = print_area (spelled_area word)
+print_of rest = line_with Print (few_cells (area_of (words_of rest)))
 
-abbrev pub is_end : List ℕ → Bool
-is_end [] = true
-is_end (byte ∷ rest) = false
+-- `formulas AREA`
+unfoldable pub formulas_of : List ℕ → Line
+formulas_of rest = line_with Formulas (few_cells (area_of (words_of rest)))
 
--- a command's name, and what follows it
-abbrev pub command_of : List ℕ → List ℕ → Line
-command_of name rest = if bytes_eq name (codes "print") && is_end (behind_word rest) then print_of (word_of rest) else Refused BadCommand
+-- what a command does, by its name, with what follows the space behind it
+abbrev pub forms : List (List ℕ × (List ℕ → Line))
+forms =
+    (codes "set", set_of)
+    ∷ (codes "clear", clear_of)
+    ∷ (codes "calc", calc_of)
+    ∷ (codes "print", print_of)
+    ∷ (codes "formulas", formulas_of)
+    ∷ []
 
-abbrev pub text_line : List ℕ → Line
-text_line text = if is_idle text then Nothing else command_of (word_of text) (behind_word text)
+-- the line of the form with that name, if there is one
+abbrev pub named_line : List (List ℕ × (List ℕ → Line)) → List ℕ → List ℕ → Line
+named_line [] name rest = Refused BadCommand
+named_line (form ∷ others) name rest = if bytes_eq name form.0 then form.1 rest else named_line others name rest
+
+unfoldable pub command_of : List ℕ → List ℕ → Line
+command_of name rest = named_line forms name rest
+
+-- a line without its return: a command is a text, and its name stands before the first space
+unfoldable pub text_line : List ℕ → Line
+text_line text =
+    if is_idle text then Nothing
+    else (if is_utf8 text then command_of (up_to_space text) (behind_space text) else Refused BadCommand)
 
 abbrev pub line_of : List ℕ → Line
 line_of line = text_line (without_return line)

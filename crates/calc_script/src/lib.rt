@@ -4,6 +4,7 @@
 mod command;
 mod cut;
 mod read;
+mod words;
 
 pub use command::{Cause, Command, Line};
 pub use cut::{ScriptLines, lines};

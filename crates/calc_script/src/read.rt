@@ -1,40 +1,150 @@
-ghost use Rattle.std.specs.Prelude.{◌≡◌, ◌≤◌, length, codes, IfOk};
-ghost use Rattle.std.specs.Str.{bytes_eq};
-ghost use Rattle.std.specs.List.{list_all, prefix_len};
-ghost use Rattle.calc_script.specs.Commands.{line_of, without_return, is_idle, is_space, word_of, behind_word, without_spaces, print_of, cell_count};
+ghost use Rattle.std.specs.Prelude.{◌≡◌, IfOk};
+ghost use Rattle.std.specs.Str.{IsUtf8};
+ghost use Rattle.calc_script.specs.Commands.{area_of, calc_of, cell_count, clear_of, command_of, few_cells, formulas_of, line_of, print_of, set_line, set_of, text_line};
+ghost use Rattle.calc_script.specs.Words.{behind_space, up_to_space};
 
 use crate::command::{Cause, Command, Line};
-use crate::cut::cut;
-use calc_addr::{Area, NoMemory, Spelled, read_area};
+use crate::words::{LineWords, cut_word, is_idle, without_return, without_spaces, words};
+use calc_addr::{Area, NoMemory, Spelled, read_area, read_cell};
+use calc_model::Edit;
+use formula_reader::read_field;
 use std::alloc::Global;
 
 /// The most cells that a line prints.
 const MOST_PRINTED: u64 = 65_536;
 
-/// What a line does, or why it is refused.
-pub fn read_line(_alloc: Global, line: &[u8]) -> Result<Line, NoMemory>
+/// What a line does, or why it is refused. It fails only where memory is refused, and takes none but
+/// for a field's texts and formulas. Linear in the line.
+pub fn read_line(alloc: Global, line: &[u8]) -> Result<Line, NoMemory>
     ensures { IfOk result (λ read. read ≡ line_of line.now) }
 {
-    let text = without_return(line);
+    read_text(alloc, without_return(line))
+}
+
+#[tactic(auto, using(crate::proofs::TextCuts::text_passes, crate::proofs::TextCuts::other_bytes_fail), unfolding(crate::specs::Commands::text_line))]
+fn read_text(alloc: Global, text: &[u8]) -> Result<Line, NoMemory>
+    ensures { IfOk result (λ read. read ≡ text_line text.now) }
+{
     if is_idle(text) {
         return Ok(Line::Nothing);
     }
-    let (word, rest) = split_word(text);
-    let (area, rest) = split_word(rest);
-    if !is_print(word) || !rest.is_empty() {
+    match str::from_utf8(text) {
+        Ok(text) => read_command(alloc, text.as_bytes()),
+        Err(_) => Ok(Line::Refused(Cause::BadCommand)),
+    }
+}
+
+#[tactic(auto, unfolding(crate::specs::Commands::command_of))]
+fn read_command(alloc: Global, text: &[u8]) -> Result<Line, NoMemory>
+    requires { IsUtf8 text.now }
+    ensures { IfOk result (λ read. read ≡ command_of (up_to_space text.now) (behind_space text.now)) }
+{
+    let (name, rest) = cut_word(text);
+    if name == b"set".as_slice() {
+        set(alloc, rest)
+    } else if name == b"clear".as_slice() {
+        Ok(clear(rest))
+    } else if name == b"calc".as_slice() {
+        Ok(calc(rest))
+    } else if name == b"print".as_slice() {
+        Ok(print(rest))
+    } else if name == b"formulas".as_slice() {
+        Ok(formulas(rest))
+    } else {
+        Ok(Line::Refused(Cause::BadCommand))
+    }
+}
+
+#[tactic(auto, unfolding(crate::specs::Commands::set_of))]
+fn set(alloc: Global, rest: &[u8]) -> Result<Line, NoMemory>
+    requires { IsUtf8 rest.now }
+    ensures { IfOk result (λ read. read ≡ set_of rest.now) }
+{
+    let (address, field) = cut_word(without_spaces(rest));
+    set_cell(alloc, address, field)
+}
+
+fn set_cell(alloc: Global, address: &[u8], field: &[u8]) -> Result<Line, NoMemory>
+    requires { IsUtf8 field.now }
+    ensures { IfOk result (λ read. read ≡ set_line address.now field.now) }
+{
+    if field.is_empty() {
         return Ok(Line::Refused(Cause::BadCommand));
     }
-    Ok(print(area))
+    match read_cell(address) {
+        Spelled::Is(cell) => {
+            let content = read_field(alloc, field)?;
+            Ok(Line::Do(Command::Edit(Edit::Set { cell, content })))
+        }
+        Spelled::Outside => Ok(Line::Refused(Cause::OffSheet)),
+        Spelled::Not => Ok(Line::Refused(Cause::BadCommand)),
+    }
+}
+
+#[tactic(auto, unfolding(crate::specs::Commands::clear_of))]
+fn clear(rest: &[u8]) -> Line
+    ensures { result ≡ clear_of rest.now }
+{
+    match read_only_area(words(rest)) {
+        Ok(area) => Line::Do(Command::Edit(Edit::Clear { area })),
+        Err(cause) => Line::Refused(cause),
+    }
+}
+
+#[tactic(auto, unfolding(crate::specs::Commands::calc_of))]
+fn calc(rest: &[u8]) -> Line
+    ensures { result ≡ calc_of rest.now }
+{
+    match words(rest).next() {
+        None => Line::Do(Command::Calc),
+        Some(_) => Line::Refused(Cause::BadCommand),
+    }
 }
 
 #[tactic(auto, unfolding(crate::specs::Commands::print_of))]
-fn print(word: &[u8]) -> Line
-    ensures { result ≡ print_of word.now }
+fn print(rest: &[u8]) -> Line
+    ensures { result ≡ print_of rest.now }
 {
-    match read_area(word) {
-        Spelled::Is(area) if cell_count(area) <= MOST_PRINTED => Line::Do(Command::Print(area)),
-        _ => Line::Refused(Cause::BadCommand),
+    match read_few_cells(words(rest)) {
+        Ok(area) => Line::Do(Command::Print(area)),
+        Err(cause) => Line::Refused(cause),
     }
+}
+
+#[tactic(auto, unfolding(crate::specs::Commands::formulas_of))]
+fn formulas(rest: &[u8]) -> Line
+    ensures { result ≡ formulas_of rest.now }
+{
+    match read_few_cells(words(rest)) {
+        Ok(area) => Line::Do(Command::Formulas(area)),
+        Err(cause) => Line::Refused(cause),
+    }
+}
+
+/// The area of words that are one area.
+#[tactic(auto, unfolding(crate::specs::Commands::area_of))]
+fn read_only_area(mut words: LineWords<'_>) -> Result<Area, Cause>
+    ensures { result ≡ area_of words.entry }
+{
+    match (words.next(), words.next()) {
+        (Some(word), None) => match read_area(word) {
+            Spelled::Is(area) => Ok(area),
+            Spelled::Outside => Err(Cause::OffSheet),
+            Spelled::Not => Err(Cause::BadCommand),
+        },
+        _ => Err(Cause::BadCommand),
+    }
+}
+
+/// The same of an area of which a line may print every cell.
+fn read_few_cells(words: LineWords<'_>) -> Result<Area, Cause>
+    ensures { result ≡ few_cells (area_of words.entry) }
+{
+    let area = read_only_area(words)?;
+    if cell_count(area) > MOST_PRINTED {
+        return Err(Cause::TooLarge);
+    }
+    Ok(area)
 }
 
 /// How many cells the area has.
@@ -46,55 +156,19 @@ fn cell_count(area: Area) -> u64
     cols * rows
 }
 
-/// The line without the carriage return at its end.
-fn without_return(line: &[u8]) -> &[u8]
-    ensures { result.now ≡ without_return line.now }
-{
-    match line.last() {
-        Some(b'\r') => &line[..line.len() - 1],
-        _ => line,
+#[cfg(test)]
+mod tests {
+    use super::*;
+    use std::test::Fail;
+
+    #[test]
+    fn lines_are_read(rt: HostRuntime) -> Result<(), Fail> {
+        let set = read_line(rt.alloc(), b"set A1 apples")?;
+        assert!(rt; matches!(&set, Line::Do(Command::Edit(Edit::Set { .. }))));
+        let clear = read_line(rt.alloc(), b"clear A1:B2")?;
+        assert!(rt; matches!(&clear, Line::Do(Command::Edit(Edit::Clear { .. }))));
+        let refused = read_line(rt.alloc(), b"print AMK1")?;
+        assert!(rt; matches!(&refused, Line::Refused(Cause::OffSheet)));
+        Ok(())
     }
-}
-
-/// Whether a line does nothing: it is empty, has spaces alone, or is a comment.
-fn is_idle(text: &[u8]) -> bool
-    ensures { result ≡ is_idle text.now }
-{
-    text.starts_with(b"#") || are_spaces(text)
-}
-
-fn are_spaces(text: &[u8]) -> bool
-    ensures { result ≡ list_all is_space text.now }
-{
-    text.iter().all(|byte| *byte == b' ')
-}
-
-/// The word up to the first space, and what follows the spaces behind it.
-fn split_word(text: &[u8]) -> (&[u8], &[u8])
-    ensures word { result.0.now ≡ word_of text.now }
-    ensures rest { result.1.now ≡ behind_word text.now }
-{
-    let (word, rest) = cut(text, b' ');
-    (word, without_spaces(rest))
-}
-
-/// The text without the spaces at its front.
-fn without_spaces(text: &[u8]) -> &[u8]
-    ensures { result.now ≡ without_spaces text.now }
-{
-    &text[count_spaces(text)..]
-}
-
-/// How many spaces stand at the text's front.
-fn count_spaces(text: &[u8]) -> usize
-    ensures within { result ≤ length text.now }
-    ensures spaces { result ≡ prefix_len is_space text.now }
-{
-    text.iter().take_while(|byte| **byte == b' ').count()
-}
-
-fn is_print(word: &[u8]) -> bool
-    ensures { result ≡ bytes_eq word.now (codes "print") }
-{
-    word == b"print".as_slice()
 }

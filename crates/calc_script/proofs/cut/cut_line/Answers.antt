@@ -1,3 +1,4 @@
+-- A text begins with its first line.
 use Rattle.calc_script.proofs.Cutting.{cut_line}
 use Rattle.calc_script.proofs.cut.cut_line.Goals as goal
 
