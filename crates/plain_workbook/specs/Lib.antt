@@ -1,0 +1,3 @@
+pub mod Touched
+pub mod Reach
+pub mod Workbook
