@@ -5,7 +5,7 @@ use Rattle.std.specs.Str.{IsUtf8}
 use Rattle.std.proofs.lemmas.Bool.Decides.{nat_tests}
 use Rattle.std.proofs.lemmas.Str.{IsUtf8-from_ascii}
 use Rattle.calc_script.specs.Lines.{lines_of}
-use Rattle.calc_book.specs.BookForm.{fields_in, is_plain_byte, is_plain_field, is_plain_record, is_plain_book}
+use Rattle.calc_book.specs.BookForm.{fields_in, is_plain_byte, is_plain_record, is_plain_book}
 
 both : (a b : Bool) → a ≡ true → b ≡ true → (a && b) ≡ true
 both true true _ _ = refl
@@ -70,7 +70,7 @@ pub few_fields : (text : List ℕ) → is_plain_record text ≡ true → length 
 few_fields text h =
     let filled = nat_lt 0 (length text) in
     let few = nat_le (length (fields_in text)) 1024 in
-    within (length (fields_in text)) 1024 (second_of filled few (first_of (filled && few) (list_all is_plain_field (fields_in text)) h))
+    within (length (fields_in text)) 1024 (second_of filled few h)
 
 module _ (bytes : List ℕ) (h : is_plain_book bytes ≡ true) where
   abbrev short : Bool

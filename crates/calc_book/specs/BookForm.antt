@@ -1,13 +1,10 @@
 -- The books that can be read so far. A book's records end with line feeds and their fields are separated
 -- by commas; what follows the last line feed is a record where it isn't empty. The k-th record is row k,
 -- and its j-th field is column j of the first sheet. A book isn't read that has more than 65,535 bytes,
--- a quote, a carriage return or a byte past ASCII, an empty line, a record of more than 1,024 fields, or
--- a field that begins as a number and isn't a plain one: an optional sign, 1 to 18 digits and, if need be,
--- a point with 1 to 9 digits.
-use Rattle.std.specs.Prelude.{ℕ, ◌+◌, ◌==◌, ◌&&◌, ◌||◌, not, nat_le, nat_lt, Bool, true, false, List, [], ◌∷◌, length, drop, Option, Some, None, if◌then◌else◌}
+-- a quote, a carriage return or a byte past ASCII, an empty line, or a record of more than 1,024 fields.
+use Rattle.std.specs.Prelude.{ℕ, ◌+◌, ◌==◌, ◌&&◌, not, nat_le, nat_lt, Bool, List, [], ◌∷◌, length, Option, Some, None}
 use denote.Ref.{Bor}
-use Rattle.std.specs.List.{list_all, prefix_len, slice_split}
-use Rattle.std.specs.Char.{is_ascii_digit}
+use Rattle.std.specs.List.{list_all, slice_split}
 use Rattle.calc_addr.specs.Cells.{Place}
 use Rattle.calc_model.specs.declared.content.Content.{Content}
 use Rattle.calc_model.specs.Books.{with_content}
@@ -25,36 +22,8 @@ fields_left (Some text) = fields_in text.now
 abbrev pub is_plain_byte : ℕ → Bool
 is_plain_byte byte = nat_le byte 127 && not (byte == 34) && not (byte == 13)
 
-abbrev pub is_sign : ℕ → Bool
-is_sign byte = (byte == 43) || (byte == 45)
-
-abbrev pub begins_number : List ℕ → Bool
-begins_number [] = false
-begins_number (byte ∷ rest) = is_ascii_digit byte || (byte == 46) || is_sign byte
-
-abbrev pub count_digits : List ℕ → ℕ
-count_digits text = prefix_len is_ascii_digit text
-
-abbrev pub is_within : ℕ → ℕ → Bool
-is_within most count = nat_le 1 count && nat_le count most
-
--- nothing, or a point and 1 to 9 digits
-abbrev pub is_plain_end : List ℕ → Bool
-is_plain_end [] = true
-is_plain_end (byte ∷ rest) = (byte == 46) && is_within 9 (length rest) && (count_digits rest == length rest)
-
-abbrev pub is_plain_unsigned : List ℕ → Bool
-is_plain_unsigned text = is_within 18 (count_digits text) && is_plain_end (drop (count_digits text) text)
-
-abbrev pub is_plain_number : List ℕ → Bool
-is_plain_number [] = false
-is_plain_number (byte ∷ rest) = if is_sign byte then is_plain_unsigned rest else is_plain_unsigned (byte ∷ rest)
-
-abbrev pub is_plain_field : List ℕ → Bool
-is_plain_field field = not (begins_number field) || is_plain_number field
-
 abbrev pub is_plain_record : List ℕ → Bool
-is_plain_record text = nat_lt 0 (length text) && nat_le (length (fields_in text)) 1024 && list_all is_plain_field (fields_in text)
+is_plain_record text = nat_lt 0 (length text) && nat_le (length (fields_in text)) 1024
 
 abbrev pub is_plain_book : List ℕ → Bool
 is_plain_book bytes = nat_le (length bytes) 65535 && list_all is_plain_byte bytes && list_all is_plain_record (lines_of bytes)

@@ -1,18 +1,16 @@
 //! A book's cells, set field by field.
 ghost use Rattle.std.specs.Prelude.{◌≡◌, ◌≤◌, true, false, [], IfOk, OnOk, IsErrOf};
 ghost use Rattle.std.specs.List.{list_all};
-ghost use Rattle.calc_model.specs.Books.{is_held, with_content};
 ghost use Rattle.calc_script.specs.Lines.{lines_of};
 ghost use Rattle.calc_book.specs.BookForm.{fields_in, is_plain_byte, is_plain_record, is_plain_book, with_fields, with_records, book_cells};
 
 use crate::plain::is_plain_book;
 use crate::splitting::fields_of;
 use calc_addr::{Cell, NoMemory};
-use calc_model::Content;
 use calc_script::lines;
 use formula_reader::read_field;
+use plain_evaluator::{Cells, set_content};
 use std::alloc::{AllocError, Global};
-use std::collections::BTreeMap;
 
 /// Why a book isn't read.
 #[derive(Clone, Copy, Debug, PartialEq, Eq)]
@@ -36,7 +34,7 @@ impl From<AllocError> for BookFault {
 
 /// The cells of a book that aren't empty. Its records are the rows of the first sheet, from row 1 on,
 /// and the fields of a record its columns, from column 1 on.
-pub fn read_book(alloc: Global, bytes: &[u8]) -> Result<BTreeMap<Cell, Content>, BookFault>
+pub fn read_book(alloc: Global, bytes: &[u8]) -> Result<Cells, BookFault>
     ensures cells { IfOk result (λ cells. cells.entries ≡ book_cells bytes.now) }
     ensures not_built { IsErrOf result BookFault.NotBuilt → is_plain_book bytes.now ≡ false }
     ensures built { is_plain_book bytes.now ≡ false → IsErrOf result BookFault.NotBuilt }
@@ -49,11 +47,11 @@ pub fn read_book(alloc: Global, bytes: &[u8]) -> Result<BTreeMap<Cell, Content>,
 }
 
 /// The cells of a book that can be read.
-fn read_records(alloc: Global, bytes: &[u8]) -> Result<BTreeMap<Cell, Content>, NoMemory>
+fn read_records(alloc: Global, bytes: &[u8]) -> Result<Cells, NoMemory>
     requires { is_plain_book bytes.now ≡ true }
     ensures { IfOk result (λ cells. cells.entries ≡ book_cells bytes.now) }
 {
-    let mut cells = BTreeMap::new(alloc);
+    let mut cells = Cells::new(alloc);
     let mut row = 1;
     for line in lines(bytes) {
         read_record(alloc, &mut cells, row, line)?;
@@ -63,12 +61,7 @@ fn read_records(alloc: Global, bytes: &[u8]) -> Result<BTreeMap<Cell, Content>, 
 }
 
 /// Sets the cells of a row to the fields of a record.
-fn read_record(
-    alloc: Global,
-    cells: &mut BTreeMap<Cell, Content>,
-    row: u32,
-    text: &[u8],
-) -> Result<(), NoMemory>
+fn read_record(alloc: Global, cells: &mut Cells, row: u32, text: &[u8]) -> Result<(), NoMemory>
     requires first { 1 ≤ row }
     requires last { row ≤ 1048576 }
     requires bytes { list_all is_plain_byte text.now ≡ true }
@@ -82,27 +75,4 @@ fn read_record(
         col += 1;
     }
     Ok(())
-}
-
-/// Puts a content into a cell, or empties it.
-fn set_content(
-    cells: &mut BTreeMap<Cell, Content>,
-    cell: Cell,
-    content: Content,
-) -> Result<(), NoMemory>
-    ensures { OnOk result (cells.new.entries ≡ with_content cells.old.entries cell content) }
-{
-    if is_held(&content) {
-        cells.insert(cell, content)?;
-    } else {
-        cells.remove(&cell);
-    }
-    Ok(())
-}
-
-/// Whether it is the content of a cell that isn't empty.
-fn is_held(content: &Content) -> bool
-    ensures { result ≡ is_held content.now }
-{
-    !matches!(content, Content::Empty)
 }

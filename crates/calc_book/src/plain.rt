@@ -1,7 +1,7 @@
 //! Which books can be read so far.
 ghost use Rattle.std.specs.Prelude.{◌≡◌, ◌≤◌, nat_le, length};
 ghost use Rattle.std.specs.List.{list_all};
-ghost use Rattle.calc_book.specs.BookForm.{fields_in, begins_number, count_digits, is_plain_byte, is_plain_end, is_plain_unsigned, is_plain_number, is_plain_field, is_plain_record, is_plain_book};
+ghost use Rattle.calc_book.specs.BookForm.{fields_in, is_plain_byte, is_plain_record, is_plain_book};
 ghost use Rattle.calc_script.specs.Lines.{lines_of};
 
 use crate::splitting::fields_of;
@@ -42,7 +42,7 @@ fn are_plain_records(bytes: &[u8]) -> bool
 fn is_plain_record(text: &[u8]) -> bool
     ensures { result ≡ is_plain_record text.now }
 {
-    !text.is_empty() && has_few_fields(text) && are_plain_fields(text)
+    !text.is_empty() && has_few_fields(text)
 }
 
 fn has_few_fields(text: &[u8]) -> bool
@@ -56,69 +56,4 @@ fn has_few_fields(text: &[u8]) -> bool
         count += 1;
     }
     true
-}
-
-fn are_plain_fields(text: &[u8]) -> bool
-    ensures { result ≡ list_all is_plain_field (fields_in text.now) }
-{
-    for field in fields_of(text) {
-        if !is_plain_field(field) {
-            return false;
-        }
-    }
-    true
-}
-
-fn is_plain_field(field: &[u8]) -> bool
-    ensures { result ≡ is_plain_field field.now }
-{
-    !begins_number(field) || is_plain_number(field)
-}
-
-/// Whether a field begins as a number does.
-fn begins_number(field: &[u8]) -> bool
-    ensures { result ≡ begins_number field.now }
-{
-    match field.first() {
-        Some(byte) => byte.is_ascii_digit() || matches!(byte, b'.' | b'+' | b'-'),
-        None => false,
-    }
-}
-
-fn is_plain_number(field: &[u8]) -> bool
-    ensures { result ≡ is_plain_number field.now }
-{
-    match field.split_first() {
-        Some((b'+' | b'-', rest)) => is_plain_unsigned(rest),
-        _ => is_plain_unsigned(field),
-    }
-}
-
-fn is_plain_unsigned(text: &[u8]) -> bool
-    ensures { result ≡ is_plain_unsigned text.now }
-{
-    let whole = count_digits(text);
-    (1..=18).contains(&whole) && is_plain_end(&text[whole..])
-}
-
-/// Whether a text is empty, or a point and one to nine digits.
-fn is_plain_end(text: &[u8]) -> bool
-    ensures { result ≡ is_plain_end text.now }
-{
-    match text.split_first() {
-        None => true,
-        Some((point, digits)) => {
-            *point == b'.'
-                && (1..=9).contains(&digits.len())
-                && count_digits(digits) == digits.len()
-        }
-    }
-}
-
-/// How many digits the text begins with.
-fn count_digits(text: &[u8]) -> usize
-    ensures within { result ≤ length text.now }
-    ensures digits { result ≡ count_digits text.now }
-{
-    text.iter().take_while(|byte| byte.is_ascii_digit()).count()
 }
