@@ -1,3 +1,6 @@
 pub mod Growing
 pub mod Joining
+pub mod PrintedOperands
+pub mod PrintedRows
 pub mod Quotes
+pub mod SpelledTrees

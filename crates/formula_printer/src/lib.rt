@@ -2,7 +2,9 @@
 #![tactic(auto)]
 
 mod content;
+mod laws;
 mod quote;
 mod tree;
 
 pub use content::print_content;
+pub use laws::printed_formulas_spell_their_tree;
