@@ -48,8 +48,7 @@ fn print_parenthesis(child: &Tree, out: &mut Vec<u8>) -> Result<(), NoMemory>
     ensures ok { OnOk result (out.new.items ≡ out.old.items ++ (codes "(" ++ printed_tree child.now ++ codes ")")) }
     ensures kept { OnErr result (BeginsWith out.old.items out.new.items) }
 {
-    out.extend_from_slice(b"(")?;
-    print_tree(child, out)?;
+    print_prefixed(b"(", child, out)?;
     out.extend_from_slice(b")")
 }
 
