@@ -29,10 +29,10 @@ Placed x = IsPlaced (form_of x) (printed_tree x) x
 
 -- in a place that allows the row
 in_place : (k : ℕ) (x : Tree) → Placed x → is_at k (form_of x) ≡ true → IsRow k (printed_tree x) x
-in_place k x placed formed =
+in_place k x is formed =
     let form = form_of x in
     let parts = and_parts form.formed (nat_le form.row k) formed in
-    loosened (printed_tree x) x k form.row (leb-true form.row k parts.1) (placed.spelled parts.0)
+    loosened (printed_tree x) x k form.row (leb-true form.row k parts.1) (is.spelled parts.0)
 
 -- a tree whose form and text are known
 placed : (x : Tree) (form : Form) (text : List ℕ) → form_of x ≡ form → printed_tree x ≡ text → form.row ≤ 6 → (form.formed ≡ true → IsRow form.row text x) → Placed x
@@ -56,8 +56,8 @@ placed_call n args each =
     let formed = list_all (is_at 6) (map form_of args) in
     let text = join_with_byte 59 (map printed_tree args) in
     at_tightest (t.Call n args) (spelled && formed) (n ++ codes "(" ++ text ++ codes ")") (fold.at-Call Form form_step n args) (printed_tree-Call n args)
-    (λ h.
-    let parts = and_parts spelled formed h in
+    (λ allowed.
+    let parts = and_parts spelled formed allowed in
     let names = and_parts (is_identifier n) (has_no_small_letter n) parts.0 in
     printed_call n text args names.0 (in_capitals-same n names.1) (printed_args printed_tree args (all_in_place args each parts.1)))
 
@@ -65,22 +65,22 @@ placed_binary : (op : Op) (x y : Tree) → Placed x → Placed y → Placed (t.B
 placed_binary op x y left right =
     let formed = is_at (op_row op) (form_of x) && is_at (op_row op - 1) (form_of y) in
     placed (t.Binary op x y) (record { row = op_row op; formed = formed }) (printed_tree x ++ op_text op ++ printed_tree y) (fold.at-Binary Form form_step op x y) (printed_tree-Binary op x y) (op_row-most op)
-    (λ h.
-    let parts = and_parts (is_at (op_row op) (form_of x)) (is_at (op_row op - 1) (form_of y)) h in
+    (λ allowed.
+    let parts = and_parts (is_at (op_row op) (form_of x)) (is_at (op_row op - 1) (form_of y)) allowed in
     printed_binary op (printed_tree x) (printed_tree y) x y (in_place (op_row op) x left parts.0) (in_place (op_row op - 1) y right parts.1))
 
 every_placed : (x : Tree) → Placed x
 every_placed = tree_ind Placed record {
-  number = λ n. at_tightest (t.Number n) _ (printed n) (fold.at-Number Form form_step n) (printed_tree-Number n) (λ h. row_of_operand (printed n) (t.Number n) (printed_number n h));
-  words = λ text. at_tightest (t.Words text) _ (quoted text) (fold.at-Words Form form_step text) (printed_tree-Words text) (λ h. row_of_operand (quoted text) (t.Words text) (string text h));
-  bad = λ fault. at_tightest (t.Bad fault) _ (fault_text fault) (fold.at-Bad Form form_step fault) (printed_tree-Bad fault) (λ h. row_of_operand (fault_text fault) (t.Bad fault) (error fault h));
-  reference = λ r. at_tightest (t.Ref r) _ (codes "[" ++ printed_reference r ++ codes "]") (fold.at-Ref Form form_step r) (printed_tree-Ref r) (λ h. row_of_operand (codes "[" ++ printed_reference r ++ codes "]") (t.Ref r) (printed_bracket r h));
-  name = λ text. at_tightest (t.Name text) _ text (fold.at-Name Form form_step text) (printed_tree-Name text) (λ h. row_of_operand text (t.Name text) (name text h));
+  number = λ n. at_tightest (t.Number n) _ (printed n) (fold.at-Number Form form_step n) (printed_tree-Number n) (λ allowed. row_of_operand (printed n) (t.Number n) (printed_number n allowed));
+  words = λ text. at_tightest (t.Words text) _ (quoted text) (fold.at-Words Form form_step text) (printed_tree-Words text) (λ allowed. row_of_operand (quoted text) (t.Words text) (string text allowed));
+  bad = λ fault. at_tightest (t.Bad fault) _ (fault_text fault) (fold.at-Bad Form form_step fault) (printed_tree-Bad fault) (λ allowed. row_of_operand (fault_text fault) (t.Bad fault) (error fault allowed));
+  reference = λ r. at_tightest (t.Ref r) _ (codes "[" ++ printed_reference r ++ codes "]") (fold.at-Ref Form form_step r) (printed_tree-Ref r) (λ allowed. row_of_operand (codes "[" ++ printed_reference r ++ codes "]") (t.Ref r) (printed_bracket r allowed));
+  name = λ text. at_tightest (t.Name text) _ text (fold.at-Name Form form_step text) (printed_tree-Name text) (λ allowed. row_of_operand text (t.Name text) (name text allowed));
   call = placed_call;
-  paren = λ x is. at_tightest (t.Paren x) (is_at 6 (form_of x)) (codes "(" ++ printed_tree x ++ codes ")") (fold.at-Paren Form form_step x) (printed_tree-Paren x) (λ h. printed_parenthesis (printed_tree x) x (in_place 6 x is h));
-  plus = λ x is. at_tightest (t.Plus x) (is_at 0 (form_of x)) (codes "+" ++ printed_tree x) (fold.at-Plus Form form_step x) (printed_tree-Plus x) (λ h. printed_plus (printed_tree x) x (in_place 0 x is h));
-  minus = λ x is. at_tightest (t.Minus x) (is_at 0 (form_of x)) (codes "-" ++ printed_tree x) (fold.at-Minus Form form_step x) (printed_tree-Minus x) (λ h. printed_minus (printed_tree x) x (in_place 0 x is h));
-  percent = λ x is. placed (t.Percent x) (record { row = 1; formed = is_at 1 (form_of x) }) (printed_tree x ++ codes "%") (fold.at-Percent Form form_step x) (printed_tree-Percent x) (omega arith) (λ h. printed_percent (printed_tree x) x (in_place 1 x is h));
+  paren = λ x is. at_tightest (t.Paren x) (is_at 6 (form_of x)) (codes "(" ++ printed_tree x ++ codes ")") (fold.at-Paren Form form_step x) (printed_tree-Paren x) (λ allowed. printed_parenthesis (printed_tree x) x (in_place 6 x is allowed));
+  plus = λ x is. at_tightest (t.Plus x) (is_at 0 (form_of x)) (codes "+" ++ printed_tree x) (fold.at-Plus Form form_step x) (printed_tree-Plus x) (λ allowed. printed_plus (printed_tree x) x (in_place 0 x is allowed));
+  minus = λ x is. at_tightest (t.Minus x) (is_at 0 (form_of x)) (codes "-" ++ printed_tree x) (fold.at-Minus Form form_step x) (printed_tree-Minus x) (λ allowed. printed_minus (printed_tree x) x (in_place 0 x is allowed));
+  percent = λ x is. placed (t.Percent x) (record { row = 1; formed = is_at 1 (form_of x) }) (printed_tree x ++ codes "%") (fold.at-Percent Form form_step x) (printed_tree-Percent x) (omega arith) (λ allowed. printed_percent (printed_tree x) x (in_place 1 x is allowed));
   binary = placed_binary;
 }
 

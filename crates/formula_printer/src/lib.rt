@@ -4,6 +4,8 @@
 mod content;
 mod laws;
 mod quote;
+#[cfg(test)]
+mod tests;
 mod tree;
 
 pub use content::print_content;
