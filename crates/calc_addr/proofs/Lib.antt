@@ -17,3 +17,4 @@ pub mod Walking
 pub mod ShiftLaws
 pub mod Shifting
 pub mod SpelledInside
+pub mod ReferenceTests

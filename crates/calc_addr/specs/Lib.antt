@@ -7,3 +7,4 @@ pub mod Moves
 pub mod References
 pub mod Shifts
 pub mod Spelling
+pub mod ValidReferences

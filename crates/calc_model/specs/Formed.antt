@@ -1,9 +1,12 @@
--- Which trees a formula can be: each child stands at a row of the grammar that its place allows, each number
--- isn't negative, each error is one of the eight constants, names and the names of calls are spelled so, the
--- latter without small letters, and the counts are within the limits.
-use Rattle.std.specs.Prelude.{ℕ, ℤ, pos, negsuc, ◌+◌, ◌-◌, ◌&&◌, nat_le, nat_lt, Bool, true, false, List}
+-- Which trees a formula can be: each child stands at a row of the grammar that its place allows, each number is
+-- in range and isn't negative, each error is one of the eight constants, each reference lies in the sheets with
+-- its ends in order, names and the names of calls are spelled so, the latter without small letters, and the
+-- counts are within the limits.
+use Rattle.std.specs.Prelude.{ℕ, ℤ, pos, negsuc, ◌-◌, ◌&&◌, nat_le, Bool, true, false}
 use Rattle.std.specs.List.{list_all}
 use Rattle.std.specs.Str.{is_utf8}
+use Rattle.calc_num.specs.Decimals.{is_raw}
+use Rattle.calc_addr.specs.ValidReferences.{is_valid_reference}
 use Rattle.calc_model.specs.declared.tree.Tree.{Tree}
 use Rattle.calc_model.specs.declared.tree.Tree.TheOpen.{Tree-F}
 use Rattle.calc_model.specs.declared.tree.Tree.TheFolds.{fold-Tree}
@@ -27,10 +30,10 @@ is_not_negative (negsuc n) = false
 
 -- the form of a node, from those of its children
 abbrev pub form_step : Tree-F Form → Form
-form_step (Tree-F.Number n) = record { row = 0; formed = is_not_negative n }
+form_step (Tree-F.Number n) = record { row = 0; formed = is_raw n && is_not_negative n }
 form_step (Tree-F.Words text) = record { row = 0; formed = is_utf8 text }
 form_step (Tree-F.Bad fault) = record { row = 0; formed = is_error_constant fault }
-form_step (Tree-F.Ref reference) = record { row = 0; formed = true }
+form_step (Tree-F.Ref reference) = record { row = 0; formed = is_valid_reference reference }
 form_step (Tree-F.Name name) = record { row = 0; formed = is_name name }
 form_step (Tree-F.Call name args) = record { row = 0; formed = is_identifier name && has_no_small_letter name && list_all (is_at 6) args }
 form_step (Tree-F.Paren child) = record { row = 0; formed = is_at 6 child }
