@@ -1,9 +1,9 @@
 -- The commands that lines spell. A line that is empty, has spaces alone or begins with `#` does nothing.
 -- A command's name stands at the line's start. Its other words must be of its form, then its addresses
 -- must lie in the sheets, and then it must not print more cells than a line may.
-use Rattle.std.specs.Prelude.{ℕ, ◌+◌, ◌-◌, ◌*◌, ◌==◌, nat_le, List, [], ◌∷◌, length, codes, Result, Ok, Err, if◌then◌else◌}
+use Rattle.std.specs.Prelude.{ℕ, ◌==◌, nat_le, List, [], ◌∷◌, length, codes, Result, Ok, Err, if◌then◌else◌}
 use Rattle.std.specs.Str.{bytes_eq, is_utf8}
-use Rattle.calc_addr.specs.Cells.{Rectangle}
+use Rattle.calc_addr.specs.Cells.{Rectangle, cell_count}
 use Rattle.calc_addr.specs.Spelling.{spelled_area, spelled_cell}
 use Rattle.calc_addr.specs.declared.read.Spelled.{Spelled}
 use Rattle.calc_addr.specs.declared.read.Spelled.TheVariants.{Is, Outside, Not}
@@ -45,9 +45,6 @@ unfoldable pub area_of : List (List ℕ) → Result Rectangle Cause
 area_of [] = Err BadCommand
 area_of (area ∷ []) = address_of (spelled_area area)
 area_of (area ∷ other ∷ words) = Err BadCommand
-
-abbrev pub cell_count : Rectangle → ℕ
-cell_count a = (a.last_col - a.first_col + 1) * (a.last_row - a.first_row + 1)
 
 -- an area of which a line may print every cell
 abbrev pub few_cells : Result Rectangle Cause → Result Rectangle Cause

@@ -1,6 +1,6 @@
 ghost use Rattle.std.specs.Prelude.{◌≡◌, IfOk};
 ghost use Rattle.std.specs.Str.{IsUtf8};
-ghost use Rattle.calc_script.specs.Commands.{area_of, calc_of, cell_count, clear_of, command_of, few_cells, formulas_of, line_of, print_of, set_line, set_of, text_line};
+ghost use Rattle.calc_script.specs.Commands.{area_of, calc_of, clear_of, command_of, few_cells, formulas_of, line_of, print_of, set_line, set_of, text_line};
 ghost use Rattle.calc_script.specs.Words.{behind_space, up_to_space};
 
 use crate::command::{Cause, Command, Line};
@@ -141,34 +141,8 @@ fn read_few_cells(words: LineWords<'_>) -> Result<Area, Cause>
     ensures { result ≡ few_cells (area_of words.entry) }
 {
     let area = read_only_area(words)?;
-    if cell_count(area) > MOST_PRINTED {
+    if area.cell_count() > MOST_PRINTED {
         return Err(Cause::TooLarge);
     }
     Ok(area)
-}
-
-/// How many cells the area has.
-fn cell_count(area: Area) -> u64
-    ensures { result ≡ cell_count area }
-{
-    let cols = u64::from(area.last_col - area.first_col) + 1;
-    let rows = u64::from(area.last_row - area.first_row) + 1;
-    cols * rows
-}
-
-#[cfg(test)]
-mod tests {
-    use super::*;
-    use std::test::Fail;
-
-    #[test]
-    fn lines_are_read(rt: HostRuntime) -> Result<(), Fail> {
-        let set = read_line(rt.alloc(), b"set A1 apples")?;
-        assert!(rt; matches!(&set, Line::Do(Command::Edit(Edit::Set { .. }))));
-        let clear = read_line(rt.alloc(), b"clear A1:B2")?;
-        assert!(rt; matches!(&clear, Line::Do(Command::Edit(Edit::Clear { .. }))));
-        let refused = read_line(rt.alloc(), b"print AMK1")?;
-        assert!(rt; matches!(&refused, Line::Refused(Cause::OffSheet)));
-        Ok(())
-    }
 }

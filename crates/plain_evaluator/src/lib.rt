@@ -12,5 +12,5 @@ mod maps;
 mod sweep;
 
 pub use areas::push_areas;
-pub use maps::{Cells, Results, set_content, show_cell};
+pub use maps::{Cells, Results, content_of, set_content, show_cell};
 pub use sweep::evaluate;

@@ -16,7 +16,7 @@ pub type Cells = BTreeMap<Cell, Content>;
 pub type Results = BTreeMap<Cell, Value>;
 
 /// What a cell holds, if it isn't empty.
-pub(crate) fn content_of(cells: &Cells, cell: Cell) -> Option<&Content>
+pub fn content_of(cells: &Cells, cell: Cell) -> Option<&Content>
     ensures { content_at (book_of cells.now.entries) cell ≡ unwrap_or (option_copied result) Content.Empty }
 {
     cells.get(&cell)
