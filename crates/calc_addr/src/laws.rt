@@ -55,7 +55,7 @@ pub fn cells_go_with_rows()
 {}
 
 /// An area that has all rows stays, and the deletion of inserted rows gives back a reference that the
-/// insertion neither deleted nor cut off, unless it came to have all rows.
+/// insertion neither deleted nor cut off, exactly where it didn't come to have all rows.
 pub fn deletion_undoes_insertion()
     ensures whole_inserted { (place count : ℕ) (r : Reference) → has_all_rows r.area ≡ true
         → reference_after_insertion place count r ≡ Some r }
@@ -64,8 +64,7 @@ pub fn deletion_undoes_insertion()
     ensures undone { (place count : ℕ) (r s : Reference)
         → reference_after_insertion place count r ≡ Some s
         → row_after_insertion place count r.area.last_row ≤ LAST_ROW
-        → has_all_rows s.area ≡ false
-        → reference_after_deletion place count s ≡ Some r }
+        → (reference_after_deletion place count s ≡ Some r) ↔ (has_all_rows s.area ≡ has_all_rows r.area) }
 {}
 
 /// The opposite of a move that kept a reference gives it back, but for the order of ends at one
