@@ -1,7 +1,7 @@
 -- Shifts keep areas and references, and a deletion undoes an insertion.
 use Rattle.std.proofs.Common.{◌≡◌, ℕ, ◌-◌, ◌≤◌, true, false, ◌&&◌, cond, min, Option, Some, None, refl, sym, ap, ◌∙◌, subst, arith, ⊎_elim}
 use Rattle.std.specs.Prelude.{nat_le, option_map}
-use Rattle.std.proofs.lemmas.Bool.{cond-true, cond-false, leb-true, and_from, and_left, eq-eqb, cases_Bool, not-true, true≢false}
+use Rattle.std.proofs.lemmas.Bool.{cond-true, cond-false, leb-true, and_from, and_left, eq-eqb, cases_Bool, not-true}
 use Rattle.std.proofs.lemmas.Bool.Decides.{nat_tests}
 use Rattle.calc_addr.specs.Cells.{Rectangle, IsRectangle}
 use Rattle.calc_addr.specs.References.{Reference, IsReference, IsValidReference, IsSpanned, IsOne, AreColumns, AreRows}
