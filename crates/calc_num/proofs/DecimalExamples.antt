@@ -142,6 +142,9 @@ nothing_is_left_of_a_division_by_zero = refl
 a_whole_quotient_is_cut_toward_zero : whole_quotient (neg_ℤ (pos 7500000000)) (whole (pos 2)) ≡ Ok (whole (neg_ℤ (pos 3)))
 a_whole_quotient_is_cut_toward_zero = refl
 
+opposite_signs_make_a_whole_quotient_negative : whole_quotient (pos 7500000000) (whole (neg_ℤ (pos 2))) ≡ Ok (whole (neg_ℤ (pos 3)))
+opposite_signs_make_a_whole_quotient_negative = refl
+
 a_whole_quotient_by_zero_has_no_number : whole_quotient (whole (pos 1)) (pos 0) ≡ Err DivZero
 a_whole_quotient_by_zero_has_no_number = refl
 
@@ -151,6 +154,14 @@ a_whole_quotient_by_a_billionth_is_out_of_range = refl
 the_root_of_two_is_rounded_up : square_root (whole (pos 2)) ≡ Ok (pos 1414213562)
 unfolding least
 the_root_of_two_is_rounded_up = refl
+
+the_root_of_zero : square_root (pos 0) ≡ Ok (pos 0)
+unfolding least
+the_root_of_zero = refl
+
+the_root_of_the_greatest_number : square_root (pos (10 ^ 27 - 1)) ≡ Ok (pos (10 ^ 18))
+unfolding least
+the_root_of_the_greatest_number = refl
 
 the_root_of_a_billionth : square_root (pos 1) ≡ Ok (pos 31623)
 unfolding least
