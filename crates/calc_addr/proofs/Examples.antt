@@ -1,18 +1,53 @@
--- Worked examples of how cells, columns, rows and references are printed and spelled.
-use Rattle.std.proofs.Common.{◌≡◌, ℕ, true, false, Some, None, codes, refl}
+-- Worked examples of areas, and of how cells, columns, rows and references are printed and spelled.
+use Rattle.std.proofs.Common.{◌≡◌, ℕ, ◌*◌, true, false, List, [], ◌∷◌, Option, Some, None, codes, refl}
 use Rattle.std.specs.Fmt.{digits}
-use Rattle.calc_addr.specs.Cells.{Place, single}
+use Rattle.std.specs.Prelude.{option_map}
+use Rattle.calc_addr.specs.Cells.{Place, Rectangle, cell_count, covers, places, single}
 use Rattle.calc_addr.specs.Letters.{column_letters}
 use Rattle.calc_addr.specs.Addresses.{address, printed_rows}
 use Rattle.calc_addr.specs.Bracketed.{printed_reference, spelled_reference}
 use Rattle.calc_addr.specs.References.{Reference}
-use Rattle.calc_addr.specs.Spelling.{spelled_area, spelled_cell, spelled_col, spelled_row}
+use Rattle.calc_addr.specs.Spelling.{spelled_address, spelled_area, spelled_cell, spelled_col, spelled_row}
 use Rattle.calc_addr.specs.declared.read.Spelled.TheVariants.{Is, Outside, Not}
 use Rattle.calc_addr.specs.declared.reference.Marks.{Marks}
 use Rattle.calc_addr.specs.declared.reference.Span.TheVariants as span
 
 abbrev at : ℕ → ℕ → ℕ → Place
 at sheet col row = record { sheet = sheet; col = col; row = row }
+
+-- the area from B2 to C3
+abbrev b2_to_c3 : Rectangle
+b2_to_c3 = record { sheet = 0; first_col = 2; last_col = 3; first_row = 2; last_row = 3 }
+
+an_area_has_its_first_corner : covers b2_to_c3 (at 0 2 2) ≡ true
+an_area_has_its_first_corner = refl
+
+an_area_has_its_last_corner : covers b2_to_c3 (at 0 3 3) ≡ true
+an_area_has_its_last_corner = refl
+
+the_column_before_is_outside : covers b2_to_c3 (at 0 1 2) ≡ false
+the_column_before_is_outside = refl
+
+the_column_behind_is_outside : covers b2_to_c3 (at 0 4 3) ≡ false
+the_column_behind_is_outside = refl
+
+the_row_above_is_outside : covers b2_to_c3 (at 0 2 1) ≡ false
+the_row_above_is_outside = refl
+
+the_row_below_is_outside : covers b2_to_c3 (at 0 3 4) ≡ false
+the_row_below_is_outside = refl
+
+another_sheet_is_outside : covers b2_to_c3 (at 1 2 2) ≡ false
+another_sheet_is_outside = refl
+
+cells_go_down_each_column : places b2_to_c3 ≡ at 0 2 2 ∷ at 0 2 3 ∷ at 0 3 2 ∷ at 0 3 3 ∷ []
+cells_go_down_each_column = refl
+
+one_cell_counts_once : cell_count (single (at 0 2 2)) ≡ 1
+one_cell_counts_once = refl
+
+a_whole_sheet_counts_all_cells : cell_count (record { sheet = 15; first_col = 1; last_col = 1024; first_row = 1; last_row = 1048576 }) ≡ 1024 * 1048576
+a_whole_sheet_counts_all_cells = refl
 
 first_cell : address (at 0 1 1) ≡ codes "A1"
 unfolding column_letters digits
@@ -91,6 +126,15 @@ no_text = refl
 two_dollars : spelled_cell (codes "$$A1") ≡ Not
 two_dollars = refl
 
+an_address_without_a_sheet : spelled_address (codes "$amj$1048576") ≡ Is (at 0 1024 1048576)
+an_address_without_a_sheet = refl
+
+an_address_past_the_last_column : spelled_address (codes "AMK1") ≡ Outside
+an_address_past_the_last_column = refl
+
+a_sheet_is_no_part_of_an_address : spelled_address (codes "Sheet1.A1") ≡ Not
+a_sheet_is_no_part_of_an_address = refl
+
 one_cell_area : spelled_area (codes "B2") ≡ Is (record { sheet = 0; first_col = 2; last_col = 2; first_row = 2; last_row = 2 })
 one_cell_area = refl
 
@@ -109,6 +153,9 @@ a_column = refl
 past_the_last_column_alone : spelled_col (codes "AMK") ≡ Outside
 past_the_last_column_alone = refl
 
+four_letters_alone : spelled_col (codes "AAAA") ≡ Outside
+four_letters_alone = refl
+
 a_cell_is_no_column : spelled_col (codes "A1") ≡ Not
 a_cell_is_no_column = refl
 
@@ -120,6 +167,9 @@ past_the_last_row_alone = refl
 
 row_0_alone : spelled_row (codes "0") ≡ Not
 row_0_alone = refl
+
+no_leading_zero_alone : spelled_row (codes "01") ≡ Not
+no_leading_zero_alone = refl
 
 -- references
 abbrev no_marks : Marks
@@ -221,3 +271,31 @@ printed_run = refl
 printed_single_row : printed_rows (record { sheet = 0; col = 2; first = 3; last = 3 }) ≡ codes "B3:B3"
 unfolding column_letters digits
 printed_single_row = refl
+
+-- how a reference that is read is printed
+abbrev reprinted : List ℕ → Option (List ℕ)
+reprinted text = option_map printed_reference (spelled_reference text)
+
+ends_are_put_in_order : reprinted (codes ".$b$2:.A1") ≡ Some (codes ".A1:.$B$2")
+unfolding column_letters digits
+ends_are_put_in_order = refl
+
+columns_are_put_in_order : reprinted (codes ".C:.A") ≡ Some (codes ".A:.C")
+unfolding column_letters digits
+columns_are_put_in_order = refl
+
+rows_are_put_in_order : reprinted (codes ".3:.1") ≡ Some (codes ".1:.3")
+unfolding column_letters digits
+rows_are_put_in_order = refl
+
+a_sheet_is_printed_with_a_capital : reprinted (codes "$sheet1.A1") ≡ Some (codes "$Sheet1.A1")
+unfolding column_letters digits
+a_sheet_is_printed_with_a_capital = refl
+
+a_sheet_is_printed_with_a_dollar : reprinted (codes "Sheet16.a1") ≡ Some (codes "$Sheet16.A1")
+unfolding column_letters digits
+a_sheet_is_printed_with_a_dollar = refl
+
+quotes_are_not_printed : reprinted (codes "$'Sheet3'.$b$2:.A1") ≡ Some (codes "$Sheet3.A1:.$B$2")
+unfolding column_letters digits
+quotes_are_not_printed = refl

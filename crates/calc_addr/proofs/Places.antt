@@ -6,7 +6,7 @@ use Rattle.std.proofs.lemmas.List.{get_or-map, length-append, length-map}
 use Rattle.std.proofs.lemmas.List.Elements.{All-contains, All-from_recursion, Contains-append_left, Contains-append_right}
 use Rattle.std.proofs.lemmas.List.FromFn.{length-range_with_len, get_or-range_with_len}
 use Rattle.std.proofs.lemmas.Bool.{and_parts, and_from, leb-true, le-leb, eqb-true, eq-eqb}
-use Rattle.calc_addr.specs.Cells.{Place, Rectangle, IsBefore, covers, from_to, places, single}
+use Rattle.calc_addr.specs.Cells.{Place, Rectangle, IsBefore, cell_count, covers, from_to, places, single}
 use Rattle.calc_addr.proofs.Order.{before_in_column, before_in_sheet}
 
 -- what holds of each number of a range
@@ -117,7 +117,7 @@ length-flat_map_same f n (x ∷ xs) h =
     omega (arith, length-append (f x) (flat_map f xs), h x, length-flat_map_same f n xs h)
 
 -- a rectangle has its columns times its rows
-pub length-places : (a : Rectangle) → length (places a) ≡ (a.last_col + 1 - a.first_col) * (a.last_row + 1 - a.first_row)
+pub length-places : (a : Rectangle) → length (places a) ≡ cell_count a
 length-places a =
     let rows = a.last_row + 1 - a.first_row in
     length-flat_map_same (column a.sheet a.first_row rows) rows (from_to a.first_col a.last_col)

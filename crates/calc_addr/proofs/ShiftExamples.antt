@@ -25,6 +25,18 @@ rows_inserted_inside = refl
 rows_inserted_at_the_first : inserted (codes ".A$5") 5 2 ≡ spelled_reference (codes ".A$7")
 rows_inserted_at_the_first = refl
 
+rows_inserted_at_a_cell : inserted (codes ".A5") 5 1 ≡ spelled_reference (codes ".A6")
+rows_inserted_at_a_cell = refl
+
+rows_inserted_below_a_cell : inserted (codes ".A4") 5 1 ≡ spelled_reference (codes ".A4")
+rows_inserted_below_a_cell = refl
+
+the_first_cell_moves_down : inserted (codes "$Sheet2.A1") 1 1 ≡ spelled_reference (codes "$Sheet2.A2")
+the_first_cell_moves_down = refl
+
+rows_inserted_at_the_last_row : inserted (codes ".A2:.A1048576") 1048576 1 ≡ spelled_reference (codes ".A2:.A1048576")
+rows_inserted_at_the_last_row = refl
+
 an_area_is_cut_off : inserted (codes ".A2:.A1048576") 2 1 ≡ spelled_reference (codes ".A3:.A1048576")
 an_area_is_cut_off = refl
 
@@ -55,6 +67,12 @@ rows_deleted_inside = refl
 rows_deleted_after : deleted (codes ".A1:.A9") 10 1 ≡ spelled_reference (codes ".A1:.A9")
 rows_deleted_after = refl
 
+the_first_row_is_deleted : deleted (codes ".A1:.A3") 1 1 ≡ spelled_reference (codes ".A1:.A2")
+the_first_row_is_deleted = refl
+
+the_last_row_is_deleted : deleted (codes ".A2:.A1048576") 1048576 1 ≡ spelled_reference (codes ".A2:.A1048575")
+the_last_row_is_deleted = refl
+
 an_area_is_deleted : deleted (codes ".A2:.A3") 2 2 ≡ None
 an_area_is_deleted = refl
 
@@ -66,6 +84,10 @@ the_last_cell_moves_up = refl
 
 all_rows_stay_when_deleted : deleted (codes ".A1:.A1048576") 1 1048576 ≡ spelled_reference (codes ".A1:.A1048576")
 all_rows_stay_when_deleted = refl
+
+-- so the deletion of inserted rows doesn't give back an area that came to have all rows
+all_rows_stay_once_they_are_there : option_and_then (reference_after_deletion 5 1) (inserted (codes ".A1:.A1048575") 5 1) ≡ spelled_reference (codes ".A1:.A1048576")
+all_rows_stay_once_they_are_there = refl
 
 whole_rows_are_deleted : deleted (codes ".3:.$4") 1 4 ≡ None
 whole_rows_are_deleted = refl
@@ -91,6 +113,9 @@ marked_coordinates_stay = refl
 ends_change_places : moved (codes ".$B$2:.D4") (negsuc 2) (negsuc 2) ≡ spelled_reference (codes ".A1:.$B$2")
 ends_change_places = refl
 
+an_end_moves_past_a_marked_one : moved (codes ".A$5:.A7") (pos 0) (negsuc 3) ≡ spelled_reference (codes ".A3:.A$5")
+an_end_moves_past_a_marked_one = refl
+
 ends_that_meet_keep_their_order : moved (codes ".$B1:.D1") (negsuc 1) (pos 0) ≡ spelled_reference (codes ".$B1:.B1")
 ends_that_meet_keep_their_order = refl
 
@@ -102,3 +127,21 @@ rows_move_in_rows = refl
 
 all_rows_by_cells_leave : moved (codes ".A1:.A1048576") (pos 0) (pos 1) ≡ None
 all_rows_by_cells_leave = refl
+
+all_rows_by_cells_move_in_columns : moved (codes ".A1:.A1048576") (pos 1) (pos 0) ≡ spelled_reference (codes ".B1:.B1048576")
+all_rows_by_cells_move_in_columns = refl
+
+marked_rows_stay : moved (codes ".A$1:.A$1048576") (pos 1) (pos 3) ≡ spelled_reference (codes ".B$1:.B$1048576")
+marked_rows_stay = refl
+
+columns_leave_on_the_left : moved (codes ".A:.B") (negsuc 0) (pos 0) ≡ None
+columns_leave_on_the_left = refl
+
+columns_leave_on_the_right : moved (codes ".A:.AMJ") (pos 1) (pos 0) ≡ None
+columns_leave_on_the_right = refl
+
+rows_leave_above : moved (codes ".1:.2") (pos 0) (negsuc 0) ≡ None
+rows_leave_above = refl
+
+rows_leave_below : moved (codes ".1:.1048576") (pos 0) (pos 1) ≡ None
+rows_leave_below = refl

@@ -1,7 +1,7 @@
 -- Shifts keep areas and references, and a deletion undoes an insertion.
 use Rattle.std.proofs.Common.{◌≡◌, ℕ, ◌-◌, ◌≤◌, true, false, ◌&&◌, cond, min, Option, Some, None, refl, sym, ap, ◌∙◌, subst, arith, ⊎_elim}
 use Rattle.std.specs.Prelude.{nat_le, option_map}
-use Rattle.std.proofs.lemmas.Bool.{cond-true, cond-false, leb-true, and_from, and_left, eq-eqb, cases_Bool, not-true, true≢false}
+use Rattle.std.proofs.lemmas.Bool.{cond-true, cond-false, leb-true, and_from, and_left, eq-eqb, cases_Bool, not-true}
 use Rattle.std.proofs.lemmas.Bool.Decides.{nat_tests}
 use Rattle.calc_addr.specs.Cells.{Rectangle, IsRectangle}
 use Rattle.calc_addr.specs.References.{Reference, IsReference, IsValidReference, IsSpanned, IsOne, AreColumns, AreRows}
@@ -180,20 +180,39 @@ undone place count a part =
     ∙ ap (λ n. Some (with_rows a n (cond (is_deleted place count last) (place - 1) (row_after_deletion place count last)))) first_back
     ∙ ap (λ n. Some (with_rows a a.first_row n)) last_back
 
-pub area_after_deletion-insertion : (place count : ℕ) (a b : Rectangle) → area_after_insertion place count a ≡ Some b → row_after_insertion place count a.last_row ≤ 1048576 → has_all_rows b ≡ false → area_after_deletion place count b ≡ Some a
+all_rows_same : (place count : ℕ) (a b : Rectangle) → area_after_insertion place count a ≡ Some b → has_all_rows a ≡ true → a ≡ b
+all_rows_same place count a b e all = some_same a b (sym (all_rows_stay_inserted place count a all) ∙ e)
+
+-- unless it came to have all rows
+pub area_after_deletion-insertion : (place count : ℕ) (a b : Rectangle) → area_after_insertion place count a ≡ Some b → row_after_insertion place count a.last_row ≤ 1048576 → has_all_rows b ≡ has_all_rows a → area_after_deletion place count b ≡ Some a
 area_after_deletion-insertion place count a b e uncut part = ⊎_elim
-    (λ all. absurd (true≢false (sym all ∙ ap has_all_rows (some_same a b (sym (all_rows_stay_inserted place count a all) ∙ e)) ∙ part)))
+    (λ all. all_rows_stay_deleted place count b (part ∙ all) ∙ ap Some (sym (all_rows_same place count a b e all)))
     (λ some.
     let first = row_after_insertion place count a.first_row in
     let last = row_after_insertion place count a.last_row in
     let is = kept (has_all_rows a) (nat_le first 1048576) a (with_rows a first (min last 1048576)) b some e in
     let whole : min last 1048576 ≡ last = omega arith in
     let same : with_rows a first last ≡ b = ap (with_rows a first) (sym whole) ∙ is.same in
-    ap (area_after_deletion place count) (sym same) ∙ undone place count a (ap has_all_rows same ∙ part))
+    ap (area_after_deletion place count) (sym same) ∙ undone place count a (ap has_all_rows same ∙ part ∙ some))
     (cases_Bool (has_all_rows a))
 
-pub reference_after_deletion-insertion : (place count : ℕ) (r s : Reference) → reference_after_insertion place count r ≡ Some s → row_after_insertion place count r.area.last_row ≤ 1048576 → has_all_rows s.area ≡ false → reference_after_deletion place count s ≡ Some r
+pub has_all_rows-deletion-insertion : (place count : ℕ) (a b : Rectangle) → area_after_insertion place count a ≡ Some b → area_after_deletion place count b ≡ Some a → has_all_rows b ≡ has_all_rows a
+has_all_rows-deletion-insertion place count a b e back = ⊎_elim
+    (λ all. ap has_all_rows (some_same b a (sym (all_rows_stay_deleted place count b all) ∙ back)))
+    (λ some. ⊎_elim
+    (λ all. ap has_all_rows (sym (all_rows_same place count a b e all)))
+    (λ part. some ∙ sym part)
+    (cases_Bool (has_all_rows a)))
+    (cases_Bool (has_all_rows b))
+
+pub reference_after_deletion-insertion : (place count : ℕ) (r s : Reference) → reference_after_insertion place count r ≡ Some s → row_after_insertion place count r.area.last_row ≤ 1048576 → has_all_rows s.area ≡ has_all_rows r.area → reference_after_deletion place count s ≡ Some r
 reference_after_deletion-insertion place count r s e uncut part =
     let to = shifted (area_after_insertion place count r.area) r s e in
     ap (option_map (on_area s)) (area_after_deletion-insertion place count r.area s.area to.area uncut part)
     ∙ ap (λ (t : Reference). Some (on_area t r.area)) (sym to.same)
+
+pub has_all_rows-reference_back : (place count : ℕ) (r s : Reference) → reference_after_insertion place count r ≡ Some s → reference_after_deletion place count s ≡ Some r → has_all_rows s.area ≡ has_all_rows r.area
+has_all_rows-reference_back place count r s e back =
+    let to = shifted (area_after_insertion place count r.area) r s e in
+    let from = shifted (area_after_deletion place count s.area) s r back in
+    has_all_rows-deletion-insertion place count r.area s.area to.area from.area

@@ -55,7 +55,7 @@ covers a p =
 
 -- how many cells the rectangle has
 abbrev pub cell_count : Rectangle → ℕ
-cell_count a = (a.last_col - a.first_col + 1) * (a.last_row - a.first_row + 1)
+cell_count a = (a.last_col + 1 - a.first_col) * (a.last_row + 1 - a.first_row)
 
 -- the numbers from first to last
 abbrev pub from_to : ℕ → ℕ → List ℕ

@@ -103,8 +103,8 @@ impl Area {
     pub fn cell_count(self) -> u64
         ensures { result ≡ cell_count self }
     {
-        let cols = u64::from(self.last_col - self.first_col) + 1;
-        let rows = u64::from(self.last_row - self.first_row) + 1;
+        let cols = u64::from(self.last_col) + 1 - u64::from(self.first_col);
+        let rows = u64::from(self.last_row) + 1 - u64::from(self.first_row);
         cols * rows
     }
 }

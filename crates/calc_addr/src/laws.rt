@@ -1,12 +1,12 @@
 ghost use Rattle.calc_addr.specs.Addresses.{address};
 ghost use Rattle.calc_addr.specs.Bracketed.{printed_reference, spelled_reference};
-ghost use Rattle.calc_addr.specs.Cells.{IsBefore, IsPlace, IsRectangle, Place, Rectangle, covers, places};
+ghost use Rattle.calc_addr.specs.Cells.{IsBefore, IsPlace, IsRectangle, Place, Rectangle, cell_count, covers, places};
 ghost use Rattle.calc_addr.specs.Moves.{IsSameReference, moved_reference};
 ghost use Rattle.calc_addr.specs.References.{IsReference, IsValidReference, Reference};
 ghost use Rattle.calc_addr.specs.Shifts.{area_after_deletion, area_after_insertion, has_all_rows, is_deleted, place_after_deletion, place_after_insertion, reference_after_deletion, reference_after_insertion, row_after_insertion};
 ghost use Rattle.calc_addr.specs.Spelling.{spelled_area, spelled_cell};
 ghost use Rattle.calc_addr.specs.declared.read.Spelled.TheVariants.{Is};
-ghost use Rattle.std.specs.Prelude.{AllPairs, Contains, List, false, length, neg_ℤ, true, ℕ, ℤ, ◌*◌, ◌+◌, ◌-◌, ◌<◌, ◌↔◌, ◌≡◌, ◌≤◌};
+ghost use Rattle.std.specs.Prelude.{AllPairs, Contains, List, false, length, neg_ℤ, true, ℕ, ℤ, ◌<◌, ◌↔◌, ◌≡◌, ◌≤◌};
 
 use crate::cell::LAST_ROW;
 
@@ -31,8 +31,7 @@ pub fn spelled_words_lie_inside()
 pub fn areas_list_their_cells()
     ensures covered { (a : Rectangle) → (p : Place) → (covers a p ≡ true) ↔ Contains (places a) p }
     ensures in_order { (a : Rectangle) → AllPairs IsBefore (places a) }
-    ensures count { (a : Rectangle)
-        → length (places a) ≡ (a.last_col + 1 - a.first_col) * (a.last_row + 1 - a.first_row) }
+    ensures count { (a : Rectangle) → length (places a) ≡ cell_count a }
 {}
 
 /// An area that loses or gets rows keeps its cells, each at the row where it goes, and gets none of
@@ -55,7 +54,7 @@ pub fn cells_go_with_rows()
 {}
 
 /// An area that has all rows stays, and the deletion of inserted rows gives back a reference that the
-/// insertion neither deleted nor cut off, unless it came to have all rows.
+/// insertion neither deleted nor cut off, exactly where it didn't come to have all rows.
 pub fn deletion_undoes_insertion()
     ensures whole_inserted { (place count : ℕ) (r : Reference) → has_all_rows r.area ≡ true
         → reference_after_insertion place count r ≡ Some r }
@@ -64,8 +63,7 @@ pub fn deletion_undoes_insertion()
     ensures undone { (place count : ℕ) (r s : Reference)
         → reference_after_insertion place count r ≡ Some s
         → row_after_insertion place count r.area.last_row ≤ LAST_ROW
-        → has_all_rows s.area ≡ false
-        → reference_after_deletion place count s ≡ Some r }
+        → (reference_after_deletion place count s ≡ Some r) ↔ (has_all_rows s.area ≡ has_all_rows r.area) }
 {}
 
 /// The opposite of a move that kept a reference gives it back, but for the order of ends at one

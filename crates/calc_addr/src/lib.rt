@@ -1,7 +1,8 @@
 //! Cells, areas and references on sixteen sheets, and the words that spell them.
 //!
 //! A sheet has the columns 1 to 1,024 (`A` to `AMJ`) and the rows 1 to 1,048,576. The order of cells
-//! is by sheet, then column, then row; within an area this is area order.
+//! is by sheet, then column, then row; within an area this is area order. A text is read in time
+//! that grows with its length; every other call takes constant time, and none allocates.
 #![tactic(auto)]
 
 mod bracketed;

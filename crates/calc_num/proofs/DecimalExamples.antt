@@ -1,5 +1,5 @@
 -- Worked examples of the operations on raw numbers, each computed. A raw number counts billionths.
-use Rattle.std.proofs.Common.{◌≡◌, ◌-◌, ◌^◌, ℤ, pos, neg_ℤ, ◌+ℤ◌, ◌*ℤ◌, Ok, Err, refl}
+use Rattle.std.proofs.Common.{◌≡◌, ◌-◌, ◌^◌, ℤ, pos, neg_ℤ, ◌+ℤ◌, ◌-ℤ◌, ◌*ℤ◌, Ok, Err, refl}
 use Rattle.calc_num.specs.declared.num.NumFault.TheVariants.{Over, DivZero, NotNum}
 use Rattle.calc_num.specs.declared.rounding.Way.TheVariants.{Nearest, Away, Toward, Floor}
 use Rattle.calc_num.specs.Decimals.{checked, product, quotient, percent, repeated_product, power, rounding, remainder, whole_quotient, least, square_root}
@@ -23,6 +23,12 @@ three_times_a_third_is_below_one = refl
 half_a_billionth_goes_away_from_zero : product (neg_ℤ (pos 1)) (pos 500000000) ≡ Ok (neg_ℤ (pos 1))
 half_a_billionth_goes_away_from_zero = refl
 
+half_a_billionth_of_a_quotient_is_rounded_up : quotient (pos 1) (whole (pos 2)) ≡ Ok (pos 1)
+half_a_billionth_of_a_quotient_is_rounded_up = refl
+
+a_product_of_ten_to_the_eighteenth_is_out_of_range : product (whole (pos (10 ^ 9))) (whole (pos (10 ^ 9))) ≡ Err Over
+a_product_of_ten_to_the_eighteenth_is_out_of_range = refl
+
 nothing_is_divided_by_zero : quotient (whole (pos 1)) (pos 0) ≡ Err DivZero
 nothing_is_divided_by_zero = refl
 
@@ -34,6 +40,9 @@ the_greatest_and_the_least_number_make_zero = refl
 
 a_billionth_more_than_the_greatest_is_out_of_range : checked (pos (10 ^ 27 - 1) +ℤ pos 1) ≡ Err Over
 a_billionth_more_than_the_greatest_is_out_of_range = refl
+
+a_billionth_less_than_the_least_is_out_of_range : checked (neg_ℤ (pos (10 ^ 27 - 1)) -ℤ pos 1) ≡ Err Over
+a_billionth_less_than_the_least_is_out_of_range = refl
 
 fifty_billionths_are_one_hundredfold : percent (pos 50) ≡ pos 1
 fifty_billionths_are_one_hundredfold = refl
@@ -54,9 +63,19 @@ zero_has_no_negative_power : power (pos 0) (whole (neg_ℤ (pos 2))) ≡ Err Div
 unfolding repeated_product
 zero_has_no_negative_power = refl
 
-each_step_of_a_power_is_rounded : power (pos 333333333) (whole (pos 3)) ≡ Ok (pos 37037037)
+-- 0.0009765625 to nine places
+a_half_to_the_tenth_is_rounded_up : power (pos 500000000) (whole (pos 10)) ≡ Ok (pos 976563)
+unfolding repeated_product
+a_half_to_the_tenth_is_rounded_up = refl
+
+-- half of that, and not 0.00048828125, which would be rounded down
+each_step_of_a_power_is_rounded : power (pos 500000000) (whole (pos 11)) ≡ Ok (pos 488282)
 unfolding repeated_product
 each_step_of_a_power_is_rounded = refl
+
+a_power_that_is_rounded_to_zero_divides_nothing : power (pos 10000) (whole (neg_ℤ (pos 2))) ≡ Err DivZero
+unfolding repeated_product
+a_power_that_is_rounded_to_zero_divides_nothing = refl
 
 a_power_has_a_whole_exponent : power (whole (pos 4)) (pos 500000000) ≡ Err NotNum
 unfolding repeated_product
@@ -65,6 +84,10 @@ a_power_has_a_whole_exponent = refl
 an_exponent_is_at_most_1024 : power (whole (pos 1)) (whole (pos 1025)) ≡ Err NotNum
 unfolding repeated_product
 an_exponent_is_at_most_1024 = refl
+
+an_exponent_of_1024_is_taken : power (whole (neg_ℤ (pos 1))) (whole (neg_ℤ (pos 1024))) ≡ Ok (whole (pos 1))
+unfolding repeated_product
+an_exponent_of_1024_is_taken = refl
 
 a_large_exponent_takes_no_step : power (whole (pos 2)) (pos (10 ^ 26)) ≡ Err NotNum
 unfolding repeated_product
@@ -101,18 +124,44 @@ nine_digits_change_nothing = refl
 away_to_a_unit_beyond_every_number_is_out_of_range : rounding Away (neg_ℤ (pos 18)) (pos 1) ≡ Err Over
 away_to_a_unit_beyond_every_number_is_out_of_range = refl
 
+the_greatest_number_is_rounded_out_of_range : rounding Nearest (neg_ℤ (pos 18)) (pos (10 ^ 27 - 1)) ≡ Err Over
+the_greatest_number_is_rounded_out_of_range = refl
+
+a_unit_beyond_every_number_leaves_zero : rounding Nearest (neg_ℤ (pos 19)) (pos (10 ^ 27 - 1)) ≡ Ok (pos 0)
+a_unit_beyond_every_number_leaves_zero = refl
+
 minus_seven_and_a_half_leaves_a_half : remainder (neg_ℤ (pos 7500000000)) (whole (pos 2)) ≡ Ok (pos 500000000)
 minus_seven_and_a_half_leaves_a_half = refl
 
 a_remainder_has_the_divisors_sign : remainder (pos 7500000000) (whole (neg_ℤ (pos 2))) ≡ Ok (neg_ℤ (pos 500000000))
 a_remainder_has_the_divisors_sign = refl
 
+nothing_is_left_of_a_division_by_zero : remainder (whole (pos 1)) (pos 0) ≡ Err DivZero
+nothing_is_left_of_a_division_by_zero = refl
+
 a_whole_quotient_is_cut_toward_zero : whole_quotient (neg_ℤ (pos 7500000000)) (whole (pos 2)) ≡ Ok (whole (neg_ℤ (pos 3)))
 a_whole_quotient_is_cut_toward_zero = refl
+
+opposite_signs_make_a_whole_quotient_negative : whole_quotient (pos 7500000000) (whole (neg_ℤ (pos 2))) ≡ Ok (whole (neg_ℤ (pos 3)))
+opposite_signs_make_a_whole_quotient_negative = refl
+
+a_whole_quotient_by_zero_has_no_number : whole_quotient (whole (pos 1)) (pos 0) ≡ Err DivZero
+a_whole_quotient_by_zero_has_no_number = refl
+
+a_whole_quotient_by_a_billionth_is_out_of_range : whole_quotient (pos (10 ^ 27 - 1)) (pos 1) ≡ Err Over
+a_whole_quotient_by_a_billionth_is_out_of_range = refl
 
 the_root_of_two_is_rounded_up : square_root (whole (pos 2)) ≡ Ok (pos 1414213562)
 unfolding least
 the_root_of_two_is_rounded_up = refl
+
+the_root_of_zero : square_root (pos 0) ≡ Ok (pos 0)
+unfolding least
+the_root_of_zero = refl
+
+the_root_of_the_greatest_number : square_root (pos (10 ^ 27 - 1)) ≡ Ok (pos (10 ^ 18))
+unfolding least
+the_root_of_the_greatest_number = refl
 
 the_root_of_a_billionth : square_root (pos 1) ≡ Ok (pos 31623)
 unfolding least

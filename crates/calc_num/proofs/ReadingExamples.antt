@@ -18,6 +18,9 @@ a_point_needs_no_digit_before_it = refl
 a_point_needs_no_digit_behind_it : reading (codes "1.") ≡ Number (pos (10 ^ 9))
 a_point_needs_no_digit_behind_it = refl
 
+an_exponent_may_follow_a_point : reading (codes "1.e2") ≡ Number (pos (100 * 10 ^ 9))
+an_exponent_may_follow_a_point = refl
+
 minus_zero_is_zero : reading (codes "-0") ≡ Number (pos 0)
 minus_zero_is_zero = refl
 
@@ -41,6 +44,9 @@ half_a_billionth_below_zero_is_rounded_down = refl
 
 a_point_alone_is_no_number : reading (codes ".") ≡ NotNumber
 a_point_alone_is_no_number = refl
+
+a_point_with_an_exponent_is_no_number : reading (codes ".e2") ≡ NotNumber
+a_point_with_an_exponent_is_no_number = refl
 
 a_sign_alone_is_no_number : reading (codes "+") ≡ NotNumber
 a_sign_alone_is_no_number = refl

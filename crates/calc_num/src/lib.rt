@@ -2,6 +2,10 @@
 //!
 //! A number is kept as its raw number n, which stands for n / 10^9. The size of n is below 10^27, so
 //! a number has up to 18 digits before the point and nine behind it. Nothing is floating point.
+//!
+//! A result is exact or rounded to the nearest billionth, halves away from zero, and where it is out
+//! of range the fault is `Over`. No call allocates. Each takes constant time, but for `pow` with its
+//! up to 1,024 products, and `read`, which is linear in its text.
 #![tactic(auto)]
 
 mod multiply;

@@ -69,7 +69,7 @@ fn rounded_quotient(a: u128, b: u128) -> u128
 }
 
 impl Num {
-    /// The product.
+    /// The product, rounded once. Its one fault is `Over`.
     pub fn mul(self, other: Num) -> Result<Num, NumFault>
         ensures { result ≡ product self other }
     {
@@ -77,7 +77,7 @@ impl Num {
         Num::from_any_size(self.is_negative() != other.is_negative(), size)
     }
 
-    /// The quotient.
+    /// The quotient, rounded once. A divisor of zero is `DivZero`; its other fault is `Over`.
     pub fn div(self, other: Num) -> Result<Num, NumFault>
         ensures { result ≡ quotient self other }
     {
@@ -88,7 +88,7 @@ impl Num {
         Num::from_any_size(self.is_negative() != other.is_negative(), size)
     }
 
-    /// A hundredth.
+    /// A hundredth, rounded once. It is always in range.
     pub fn percent(self) -> Num
         ensures { result ≡ percent self }
     {

@@ -50,7 +50,7 @@ impl Default for Num {
 }
 
 impl Num {
-    /// The number with the raw number n, if that is in range.
+    /// The number of n billionths, or None where the size of n is 10^27 or more.
     pub fn from_raw(n: i128) -> Option<Num>
         ensures in_range { IsSome result ↔ IsRaw n }
         ensures value { IfSome result (λ num. num ≡ n) }
@@ -62,7 +62,7 @@ impl Num {
         }
     }
 
-    /// The raw number.
+    /// The raw number: how many billionths the number has.
     pub fn raw(self) -> i128
         ensures value { result ≡ self }
         ensures in_range { IsRaw result }
@@ -107,21 +107,21 @@ impl Num {
         }
     }
 
-    /// The sum, which is exact.
+    /// The sum, which is exact. Its one fault is `Over`.
     pub fn add(self, other: Num) -> Result<Num, NumFault>
         ensures { result ≡ checked (self +ℤ other) }
     {
         Num::from_raw(self.raw + other.raw).ok_or(NumFault::Over)
     }
 
-    /// The difference, which is exact.
+    /// The difference, which is exact. Its one fault is `Over`.
     pub fn sub(self, other: Num) -> Result<Num, NumFault>
         ensures { result ≡ checked (self -ℤ other) }
     {
         Num::from_raw(self.raw - other.raw).ok_or(NumFault::Over)
     }
 
-    /// The negative.
+    /// The negative, which is always in range.
     pub fn neg(self) -> Num
         ensures { result ≡ neg_ℤ self }
     {

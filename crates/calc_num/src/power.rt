@@ -24,9 +24,10 @@ fn repeated(base: Num, count: u32) -> Result<Num, NumFault>
 }
 
 impl Num {
-    /// The power: one, multiplied by the number as often as the exponent says, and for a negative
-    /// exponent one divided by that. An exponent that isn't a whole number from -1,024 to 1,024 is
-    /// `NotNum`. There are at most 1,024 products.
+    /// The power: one, multiplied by the number as often as the exponent says, each product rounded
+    /// and tested, and for a negative exponent one divided by that, where a product of zero is
+    /// `DivZero`. An exponent that isn't a whole number from -1,024 to 1,024 is `NotNum`. There are
+    /// at most 1,024 products.
     pub fn pow(self, exponent: Num) -> Result<Num, NumFault>
         ensures { result ≡ power self exponent }
     {
@@ -43,7 +44,7 @@ impl Num {
     }
 
     /// The square root to nine places, which is never halfway between two. A negative number has none
-    /// and is `NotNum`.
+    /// and is `NotNum`; there is no other fault.
     pub fn sqrt(self) -> Result<Num, NumFault>
         ensures value { result ≡ square_root self }
         ensures least { IfOk result (IsLeastRoot self) }

@@ -13,7 +13,7 @@ pub enum Way {
     Away,
     /// Toward zero.
     Toward,
-    /// To the multiple below.
+    /// To the greatest multiple that isn't above the number.
     Floor,
 }
 
@@ -58,7 +58,9 @@ fn floor_rest(size: u128, divisor: u128, opposite: bool) -> u128
 }
 
 impl Num {
-    /// The multiple of `10^(-digits)` that the way picks; the number itself from nine digits on.
+    /// The multiple of `10^(-digits)` that the way picks: so many digits stay behind the point, and a
+    /// negative count makes zeros before it. From nine digits on it is the number itself. Its one
+    /// fault is `Over`.
     pub fn round_to(self, digits: i64, way: Way) -> Result<Num, NumFault>
         ensures { result ≡ rounding way digits self }
     {
@@ -84,7 +86,8 @@ impl Num {
         Ok(Num::from_size(other.is_negative(), size))
     }
 
-    /// The whole part of the quotient, cut toward zero.
+    /// The whole part of the quotient, cut toward zero. A divisor of zero is `DivZero`; its other fault
+    /// is `Over`.
     pub fn quotient(self, other: Num) -> Result<Num, NumFault>
         ensures { result ≡ whole_quotient self other }
     {
