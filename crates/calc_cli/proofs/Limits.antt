@@ -1,5 +1,5 @@
 -- What was taken of an input, up to one more than its limit, tells whether it is longer.
-use Rattle.std.proofs.Common.{◌≡◌, ℕ, ◌+◌, ◌≤◌, ◌<◌, true, false, List, length, take, sym, ap, ◌∙◌, arith, nat_lt, min}
+use Rattle.std.proofs.Common.{◌≡◌, ℕ, ◌+◌, ◌≤◌, ◌<◌, true, List, length, take, ap, ◌∙◌, arith, nat_lt, min}
 use Rattle.std.proofs.lemmas.Bool.{lt-ltb}
 use Rattle.std.proofs.lemmas.List.{length-take, take_all}
 

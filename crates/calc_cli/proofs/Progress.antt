@@ -1,5 +1,5 @@
 -- What was written of a whole, and what is still to come.
-use Rattle.std.proofs.Common.{◌≡◌, ℕ, ◌+◌, List, [], ◌++◌, length, sym, ap, subst, refl, ◌∙◌, append_assoc, append-nil, Option, arith}
+use Rattle.std.proofs.Common.{◌≡◌, ℕ, ◌||◌, Bool, true, false, List, [], ◌++◌, length, sym, ap, subst, refl, ◌∙◌, append_assoc, append-nil, Option, arith}
 use Rattle.std.specs.Io.KnownBytes.{Appends}
 use Rattle.std.proofs.KnownBytes.{Appends-nil, Appends-trans}
 use Rattle.std.proofs.lemmas.List.{length-append}
@@ -38,3 +38,12 @@ room_for_part room part rest has = HasRoom-less room (length part) (length (part
 pub room_behind_part : (first then : Option ℕ) (part rest : List ℕ) → HasRoom first (length (part ++ rest)) → RoomFalls first then (length part) → HasRoom then (length rest)
 room_behind_part first then part rest has falls =
     HasRoom-rest first then (length part) (length rest) (subst (HasRoom first) (length-append part rest) has) falls
+
+-- whether a line is refused so far or behind
+pub refused_more : (so_far flag here behind rest all : Bool) → flag ≡ here → behind ≡ rest → (so_far || (here || rest)) ≡ all → ((so_far || flag) || behind) ≡ all
+refused_more true flag here behind rest all is same whole = whole
+refused_more false flag here behind rest all is same whole = ap (λ b. b || behind) is ∙ ap (λ b. here || b) same ∙ whole
+
+-- nothing was written so far
+pub unwritten : (old : Option (List ℕ)) (whole : List ℕ) → GrowsWithin old old whole
+unwritten old whole = ([], whole, refl, Appends-nil old)

@@ -1,6 +1,7 @@
 pub mod Records
 pub mod Writes
 pub mod Inputs
-pub mod Replies
+pub mod Output
 pub mod Words
+pub mod Sessions
 pub mod Endings

@@ -3,10 +3,10 @@ ghost use Rattle.std.specs.Io.KnownBytes.{Appends};
 ghost use Rattle.calc_io.specs.Desk.{told_book, IsUnknown};
 ghost use Rattle.calc_io.specs.Faults.{Rose};
 ghost use Rattle.calc_io.specs.Sink.{HasRoom};
-ghost use Rattle.calc_cli.specs.Endings.{Ends, ending};
+ghost use Rattle.calc_cli.specs.Endings.{Ends, EndsSomehow, TakesInputs, ending};
 ghost use Rattle.calc_cli.specs.Words.{book_name};
 
-use crate::calculate::write_output;
+use crate::calculate::finish;
 use crate::input::ReadFault;
 use crate::inputs::read_inputs;
 use crate::status::{BAD_WORDS, DESK_FAILED, NO_MEMORY};
@@ -25,8 +25,10 @@ pub fn run<D: Desk, K: Sink>(alloc: Global, words: &[Text], desk: &mut D, sink: 
     ensures words { result ≡ 2 ↔ book_name words.now ≡ None }
     ensures untouched { result ≡ 2 → (desk.new ≡ desk.old) × (sink.new ≡ sink.old) }
     ensures ends { (name book script : List ℕ) → book_name words.now ≡ Some name → told_book (D.books desk.old) name ≡ Some book → D.script_left desk.old ≡ Some script → Ends result (K.written sink.old) (K.written sink.new) (ending book script) }
+    ensures ends_somehow { (result ≡ 2 → ⊥) → EndsSomehow result (K.written sink.old) (K.written sink.new) }
     ensures nothing_written { (result ≡ 3 → Appends (K.written sink.old) (K.written sink.new) []) × (result ≡ 7 → Appends (K.written sink.old) (K.written sink.new) []) }
 
+    ensures inputs_taken { (name book script : List ℕ) → book_name words.now ≡ Some name → told_book (D.books desk.old) name ≡ Some book → D.script_left desk.old ≡ Some script → TakesInputs result script (D.book_left desk.new) (D.script_left desk.new) }
     ensures unknown { (name : List ℕ) → book_name words.now ≡ Some name → IsUnknown (D.books desk.old) name → result ≡ 3 }
     ensures desk_later { D.faults desk.old ≤ D.faults desk.new }
     ensures desk_failed { result ≡ 3 → Rose (D.faults desk.old) (D.faults desk.new) }
@@ -46,8 +48,10 @@ pub fn run<D: Desk, K: Sink>(alloc: Global, words: &[Text], desk: &mut D, sink: 
 fn calculate<D: Desk, K: Sink>(alloc: Global, name: &Text, desk: &mut D, sink: &mut K) -> u8
     ensures words { result ≡ 2 → ⊥ }
     ensures ends { (book script : List ℕ) → told_book (D.books desk.old) name.now ≡ Some book → D.script_left desk.old ≡ Some script → Ends result (K.written sink.old) (K.written sink.new) (ending book script) }
+    ensures ends_somehow { EndsSomehow result (K.written sink.old) (K.written sink.new) }
     ensures nothing_written { (result ≡ 3 → Appends (K.written sink.old) (K.written sink.new) []) × (result ≡ 7 → Appends (K.written sink.old) (K.written sink.new) []) }
 
+    ensures inputs_taken { (book script : List ℕ) → told_book (D.books desk.old) name.now ≡ Some book → D.script_left desk.old ≡ Some script → TakesInputs result script (D.book_left desk.new) (D.script_left desk.new) }
     ensures unknown { IsUnknown (D.books desk.old) name.now → result ≡ 3 }
     ensures desk_later { D.faults desk.old ≤ D.faults desk.new }
     ensures desk_failed { result ≡ 3 → Rose (D.faults desk.old) (D.faults desk.new) }
@@ -58,7 +62,7 @@ fn calculate<D: Desk, K: Sink>(alloc: Global, name: &Text, desk: &mut D, sink: &
     ensures sink_room { (book script : List ℕ) → told_book (D.books desk.old) name.now ≡ Some book → D.script_left desk.old ≡ Some script → HasRoom (K.room sink.old) (length (ending book script).written) → (result ≡ 4 → ⊥) × (K.faults sink.new ≡ K.faults sink.old) }
 {
     match read_inputs(alloc, desk, name) {
-        Ok(inputs) => write_output(alloc, &inputs, sink),
+        Ok(inputs) => finish(alloc, inputs, sink),
         Err(ReadFault::Desk) => DESK_FAILED,
         Err(ReadFault::NoMemory) => NO_MEMORY,
     }

@@ -1,4 +1,4 @@
-ghost use Rattle.std.specs.Prelude.{◌≡◌, ◌≤◌, ◌<◌, ◌+◌, ◌^◌, ℕ, List, Some, take, length, IfOk, OnErr, IsErrOf, IsTrue};
+ghost use Rattle.std.specs.Prelude.{◌≡◌, ◌≤◌, ◌<◌, ◌+◌, ◌^◌, ℕ, List, Some, take, drop, length, IfOk, OnOk, OnErr, IsErrOf, IsTrue};
 ghost use Rattle.std.specs.Io.{ReadsAtMost};
 ghost use Rattle.std.specs.Io.KnownBytes.{Keeps, ReadConsumes};
 ghost use Rattle.calc_io.specs.Faults.{Rose};
@@ -52,6 +52,7 @@ pub(crate) fn read_all<D: Desk>(
 ) -> Result<Vec<u8>, ReadFault>
     requires { limit < 2 ^ 32 }
     ensures bytes { (all : List ℕ) → left_of input (D.book_left desk.old) (D.script_left desk.old) ≡ Some all → IfOk result (λ bytes. bytes.items ≡ take (limit + 1) all) }
+    ensures left { (all : List ℕ) → left_of input (D.book_left desk.old) (D.script_left desk.old) ≡ Some all → OnOk result (left_of input (D.book_left desk.new) (D.script_left desk.new) ≡ Some (drop (limit + 1) all)) }
     ensures other { Keeps (left_of (other input) (D.book_left desk.old) (D.script_left desk.old)) (left_of (other input) (D.book_left desk.new) (D.script_left desk.new)) }
 
     ensures later { D.faults desk.old ≤ D.faults desk.new }

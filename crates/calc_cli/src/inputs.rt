@@ -1,5 +1,5 @@
-ghost use Rattle.std.specs.Prelude.{◌≡◌, ◌≤◌, length, Some, IfOk, IsErrOf, IsTrue, IsSome, IfSome, List, ℕ};
-ghost use Rattle.calc_cli.specs.Endings.{IsTaken, IsLoaded, IsShort, ending, ending_of};
+ghost use Rattle.std.specs.Prelude.{◌≡◌, ◌≤◌, length, drop, Some, IfOk, OnOk, IsErrOf, IsTrue, IsSome, IfSome, List, ℕ};
+ghost use Rattle.calc_cli.specs.Endings.{IsEnding, IsLeft, IsLoaded, IsShort, IsTaken, ending, ending_of};
 ghost use Rattle.std.specs.Option.{option_map};
 ghost use Rattle.calc_io.specs.Desk.{told_book, IsUnknown};
 ghost use Rattle.std.specs.Io.KnownBytes.{Keeps};
@@ -41,7 +41,10 @@ fn cells_of(alloc: Global, bytes: &[u8]) -> Result<Option<Cells>, NoMemory>
 /// The script, unless it is too long.
 fn read_script<D: Desk>(alloc: Global, desk: &mut D) -> Result<Option<Vec<u8>>, ReadFault>
     ensures told { (script : List ℕ) → D.script_left desk.old ≡ Some script → IfOk result (λ taken. IsTaken taken script) }
+    ensures some_script { IfOk result (λ taken. (script : List ℕ) × IsTaken taken script) }
     ensures short { IfOk result (λ taken. IfSome taken (λ bytes. length bytes.items ≤ 16777216)) }
+    ensures left { (script : List ℕ) → D.script_left desk.old ≡ Some script → OnOk result (D.script_left desk.new ≡ Some (drop 16777217 script)) }
+    ensures same_book { Keeps (D.book_left desk.old) (D.book_left desk.new) }
 
     ensures later { D.faults desk.old ≤ D.faults desk.new }
     ensures cause { IsErrOf result ReadFault.Desk → Rose (D.faults desk.old) (D.faults desk.new) }
@@ -57,6 +60,8 @@ fn read_script<D: Desk>(alloc: Global, desk: &mut D) -> Result<Option<Vec<u8>>, 
 /// The cells of the book of that name, unless it has a form that can't be read so far.
 fn load_book<D: Desk>(alloc: Global, desk: &mut D, name: &Text) -> Result<Option<Cells>, ReadFault>
     ensures told { (book : List ℕ) → told_book (D.books desk.old) name.now ≡ Some book → IfOk result (λ cells. IsLoaded (option_map (λ c. c.entries) cells) book) }
+    ensures some_book { IfOk result (λ cells. (book : List ℕ) × IsLoaded (option_map (λ c. c.entries) cells) book) }
+    ensures left { (book : List ℕ) → told_book (D.books desk.old) name.now ≡ Some book → OnOk result (D.book_left desk.new ≡ Some (drop 65536 book)) }
     ensures unknown { IsUnknown (D.books desk.old) name.now → IsErrOf result ReadFault.Desk }
     ensures same_script { Keeps (D.script_left desk.old) (D.script_left desk.new) }
     ensures same_calm { D.calm desk.new ≡ D.calm desk.old }
@@ -78,6 +83,8 @@ pub(crate) fn read_inputs<D: Desk>(
     name: &Text,
 ) -> Result<Inputs, ReadFault>
     ensures told { (book script : List ℕ) → told_book (D.books desk.old) name.now ≡ Some book → D.script_left desk.old ≡ Some script → IfOk result (λ inputs. ending_of inputs ≡ ending book script) }
+    ensures somehow { IfOk result (λ inputs. IsEnding (ending_of inputs)) }
+    ensures left { (book script : List ℕ) → told_book (D.books desk.old) name.now ≡ Some book → D.script_left desk.old ≡ Some script → IfOk result (λ inputs. IsLeft inputs script (D.book_left desk.new) (D.script_left desk.new)) }
     ensures unknown { IsUnknown (D.books desk.old) name.now → IsErrOf result ReadFault.Desk }
     ensures short { IfOk result IsShort }
 

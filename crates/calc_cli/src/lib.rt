@@ -1,14 +1,15 @@
 //! The command: a book and a script in, the output of the script's lines out.
 #![tactic(auto)]
 
+mod answers;
 mod calculate;
 mod command;
 mod input;
 mod inputs;
 mod output;
 mod print;
-mod reply;
 mod status;
+mod texts;
 mod words;
 mod write;
 

@@ -2,18 +2,17 @@ ghost use Rattle.std.specs.Prelude.{◌≡◌, ◌≤◌, ◌<◌, ◌^◌, leng
 ghost use Rattle.std.specs.Io.KnownBytes.{Appends};
 ghost use Rattle.calc_io.specs.Faults.{Rose};
 ghost use Rattle.calc_io.specs.Sink.{HasRoom, RoomFalls};
-ghost use Rattle.calc_model.specs.Results.{shown_by};
 ghost use Rattle.calc_script.specs.Commands.{line_of};
 ghost use Rattle.calc_script.specs.Lines.{lines_of};
-ghost use Rattle.plain_evaluator.specs.Plain.{book_of, results_of};
-ghost use Rattle.calc_cli.specs.Replies.{reply, replies, is_refused, has_refusal};
+ghost use Rattle.calc_cli.specs.Output.{answer, has_refusal, output};
+ghost use Rattle.calc_cli.specs.Sessions.{session_of};
 ghost use Rattle.calc_cli.specs.Writes.{GrowsWithin};
 
-use crate::reply::{is_refused, reply};
+use crate::answers::answer_line;
 use crate::write::write_all;
 use calc_io::{Failed, Sink};
 use calc_script::{lines, read_line};
-use plain_evaluator::{Cells, Results};
+use plain_workbook::PlainWorkbook;
 use std::alloc::{AllocError, Global};
 
 /// Why the output isn't written to its end.
@@ -46,55 +45,54 @@ impl From<AllocError> for WriteFault {
 }
 
 /// Writes what the lines of a script write, one after the other, and answers whether one is refused.
-pub(crate) fn write_replies<K: Sink>(
+pub(crate) fn write_output<K: Sink>(
     alloc: Global,
-    cells: &Cells,
-    results: &Results,
+    workbook: &mut PlainWorkbook,
     script: &[u8],
     sink: &mut K,
 ) -> Result<bool, WriteFault>
     requires { length script.now < 2 ^ 32 }
-    ensures ok { OnOk result (Appends (K.written sink.old) (K.written sink.new) (replies (shown_by (book_of cells.now.entries) (results_of results.now.entries)) 1 (lines_of script.now))) }
-    ensures refused { IfOk result (λ refused. refused ≡ has_refusal (lines_of script.now)) }
-    ensures err { OnErr result (GrowsWithin (K.written sink.old) (K.written sink.new) (replies (shown_by (book_of cells.now.entries) (results_of results.now.entries)) 1 (lines_of script.now))) }
+    ensures ok { OnOk result (Appends (K.written sink.old) (K.written sink.new) (output (session_of workbook.old) 1 (lines_of script.now))) }
+    ensures refused { IfOk result (λ refused. refused ≡ has_refusal (session_of workbook.old) 1 (lines_of script.now)) }
+    ensures err { OnErr result (GrowsWithin (K.written sink.old) (K.written sink.new) (output (session_of workbook.old) 1 (lines_of script.now))) }
 
     ensures later { K.faults sink.old ≤ K.faults sink.new }
     ensures cause { IsErrOf result WriteFault.Sink → Rose (K.faults sink.old) (K.faults sink.new) }
 
-    ensures fits { HasRoom (K.room sink.old) (length (replies (shown_by (book_of cells.now.entries) (results_of results.now.entries)) 1 (lines_of script.now))) → IsErrOf result WriteFault.Sink → ⊥ }
-    ensures no_fault { HasRoom (K.room sink.old) (length (replies (shown_by (book_of cells.now.entries) (results_of results.now.entries)) 1 (lines_of script.now))) → K.faults sink.new ≡ K.faults sink.old }
+    ensures fits { HasRoom (K.room sink.old) (length (output (session_of workbook.old) 1 (lines_of script.now))) → IsErrOf result WriteFault.Sink → ⊥ }
+    ensures no_fault { HasRoom (K.room sink.old) (length (output (session_of workbook.old) 1 (lines_of script.now))) → K.faults sink.new ≡ K.faults sink.old }
 {
     let mut refused = false;
     let mut number = 1;
     for line in lines(script) {
-        refused |= write_reply(alloc, cells, results, number, line, sink)?;
+        refused |= write_line(alloc, workbook, number, line, sink)?;
         number += 1;
     }
     Ok(refused)
 }
 
-/// Writes what a line writes, and answers whether it is refused.
-fn write_reply<K: Sink>(
+/// Does what a line says and writes what it writes. Answers whether it is refused.
+fn write_line<K: Sink>(
     alloc: Global,
-    cells: &Cells,
-    results: &Results,
+    workbook: &mut PlainWorkbook,
     number: usize,
     line: &[u8],
     sink: &mut K,
 ) -> Result<bool, WriteFault>
-    ensures ok { OnOk result (Appends (K.written sink.old) (K.written sink.new) (reply (shown_by (book_of cells.now.entries) (results_of results.now.entries)) number (line_of line.now))) }
-    ensures refused { IfOk result (λ refused. refused ≡ is_refused (line_of line.now)) }
-    ensures err { OnErr result (GrowsWithin (K.written sink.old) (K.written sink.new) (reply (shown_by (book_of cells.now.entries) (results_of results.now.entries)) number (line_of line.now))) }
+    ensures ok { OnOk result (Appends (K.written sink.old) (K.written sink.new) (answer (session_of workbook.old) number (line_of line.now)).text) }
+    ensures refused { IfOk result (λ refused. refused ≡ (answer (session_of workbook.old) number (line_of line.now)).refused) }
+    ensures session { OnOk result (session_of workbook.new ≡ (answer (session_of workbook.old) number (line_of line.now)).session) }
+    ensures err { OnErr result (GrowsWithin (K.written sink.old) (K.written sink.new) (answer (session_of workbook.old) number (line_of line.now)).text) }
 
     ensures later { K.faults sink.old ≤ K.faults sink.new }
     ensures cause { IsErrOf result WriteFault.Sink → Rose (K.faults sink.old) (K.faults sink.new) }
 
-    ensures room { OnOk result (RoomFalls (K.room sink.old) (K.room sink.new) (length (reply (shown_by (book_of cells.now.entries) (results_of results.now.entries)) number (line_of line.now)))) }
-    ensures fits { HasRoom (K.room sink.old) (length (reply (shown_by (book_of cells.now.entries) (results_of results.now.entries)) number (line_of line.now))) → IsErrOf result WriteFault.Sink → ⊥ }
-    ensures no_fault { HasRoom (K.room sink.old) (length (reply (shown_by (book_of cells.now.entries) (results_of results.now.entries)) number (line_of line.now))) → K.faults sink.new ≡ K.faults sink.old }
+    ensures room { OnOk result (RoomFalls (K.room sink.old) (K.room sink.new) (length (answer (session_of workbook.old) number (line_of line.now)).text)) }
+    ensures fits { HasRoom (K.room sink.old) (length (answer (session_of workbook.old) number (line_of line.now)).text) → IsErrOf result WriteFault.Sink → ⊥ }
+    ensures no_fault { HasRoom (K.room sink.old) (length (answer (session_of workbook.old) number (line_of line.now)).text) → K.faults sink.new ≡ K.faults sink.old }
 {
     let line = read_line(alloc, line)?;
-    let text = reply(alloc, cells, results, number, &line)?;
-    write_all(sink, &text)?;
-    Ok(is_refused(&line))
+    let reply = answer_line(alloc, workbook, number, &line)?;
+    write_all(sink, &reply.text)?;
+    Ok(reply.refused)
 }

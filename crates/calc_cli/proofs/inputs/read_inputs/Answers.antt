@@ -1,7 +1,7 @@
-use Rattle.std.proofs.Common.{◌≡◌, Some, None, subst}
+use Rattle.std.proofs.Common.{Some, None, drop, ap, subst, ◌∙◌}
 use Rattle.std.specs.Option.{option_map}
 use Rattle.calc_cli.specs.Endings.{IsLoaded, IsTaken}
-use Rattle.calc_cli.proofs.Ended.{ends_not_built, ends_too_long, ends_answered, script_kept}
+use Rattle.calc_cli.proofs.Ended.{book_ends, script_ends, ends_not_built, ends_too_long, ends_answered, script_kept}
 use Rattle.calc_cli.proofs.inputs.read_inputs.Goals as goal
 
 pub returns-in_default-clause-told : goal.returns-in_default-clause-told
@@ -24,3 +24,33 @@ returns-in-None-clause-told g c =
     let kept = script_kept (g.D.Desk.script_left c.args.desk.now) (g.D.Desk.script_left c.load_book.new.desk) script c.in_ok-cells.ensures.same_script left in
     let taken : IsTaken None script = subst (λ bytes. IsTaken bytes script) c.in-None.is (c.in_ok-script.ensures.told script kept) in
     ends_too_long book script loaded.0 taken
+
+pub returns-in-Some-2-clause-somehow : goal.returns-in-Some-2-clause-somehow
+returns-in-Some-2-clause-somehow g c =
+    let book = c.in_ok-cells.ensures.some_book in
+    let script = c.in_ok-script.ensures.some_script in
+    let loaded : IsLoaded (Some c.in-Some.cells.entries) book.0 = subst (λ cells. IsLoaded (option_map (λ m. m.entries) cells) book.0) c.in-Some.is book.1 in
+    let taken : IsTaken (Some c.in-Some-2.script) script.0 = subst (λ bytes. IsTaken bytes script.0) c.in-Some-2.is script.1 in
+    (book.0, script.0, ends_answered book.0 script.0 c.in-Some-2.script.items c.in-Some.cells.entries loaded.0 taken.0 loaded.1 taken.1)
+
+pub returns-in-None-clause-somehow : goal.returns-in-None-clause-somehow
+returns-in-None-clause-somehow g c =
+    let book = c.in_ok-cells.ensures.some_book in
+    let script = c.in_ok-script.ensures.some_script in
+    let loaded : IsLoaded (Some c.in-Some.cells.entries) book.0 = subst (λ cells. IsLoaded (option_map (λ m. m.entries) cells) book.0) c.in-Some.is book.1 in
+    let taken : IsTaken None script.0 = subst (λ bytes. IsTaken bytes script.0) c.in-None.is script.1 in
+    (book.0, script.0, ends_too_long book.0 script.0 loaded.0 taken)
+
+pub returns-in-Some-2-clause-left : goal.returns-in-Some-2-clause-left
+returns-in-Some-2-clause-left g c =
+    λ book script told left.
+    let loaded : IsLoaded (Some c.in-Some.cells.entries) book = subst (λ cells. IsLoaded (option_map (λ m. m.entries) cells) book) c.in-Some.is (c.in_ok-cells.ensures.told book told) in
+    let kept = script_kept (g.D.Desk.script_left c.args.desk.now) (g.D.Desk.script_left c.load_book.new.desk) script c.in_ok-cells.ensures.same_script left in
+    let taken : IsTaken (Some c.in-Some-2.script) script = subst (λ bytes. IsTaken bytes script) c.in-Some-2.is (c.in_ok-script.ensures.told script kept) in
+    let book_left = script_kept (g.D.Desk.book_left c.load_book.new.desk) (g.D.Desk.book_left c.read_script.new.desk) (drop 65536 book) c.in_ok-script.ensures.same_book (c.in_ok-cells.ensures.left book told) in
+    (book_left ∙ ap Some (book_ends book loaded.0), c.in_ok-script.ensures.left script kept ∙ ap Some (script_ends script taken.0))
+
+pub returns-in-None-clause-left : goal.returns-in-None-clause-left
+returns-in-None-clause-left g c =
+    λ book script told left.
+    c.in_ok-script.ensures.left script (script_kept (g.D.Desk.script_left c.args.desk.now) (g.D.Desk.script_left c.load_book.new.desk) script c.in_ok-cells.ensures.same_script left)
