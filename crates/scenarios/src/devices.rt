@@ -1,0 +1,112 @@
+//! Inputs that are missing or too long, devices that fail, and real files and pipes.
+use crate::runs::{books, bytes, outcome, text, words};
+use calc_cli::run;
+use calc_io::{MemoryDesk, MemorySink, PipeDesk, PipeSink, SteadyDesk, SteadySink};
+use calc_model::Text;
+use std::alloc::{AllocError, Global};
+use std::test::Fail;
+use std::{env, fs};
+
+const BOOK: &str = "1,2,=[.A1]+[.B1],=[.C1]+[.C1]\n";
+
+const SCRIPT: &str = "print A1:D1\nprint D1\n";
+
+const OUTPUT: &str = "1,2,3,6\n6\n";
+
+#[test]
+fn a_missing_book_ends_with_3(rt: HostRuntime) -> Result<(), Fail> {
+    let alloc = rt.alloc();
+    let mut desk = SteadyDesk::new(Vec::new(alloc), bytes(alloc, SCRIPT)?);
+    let mut sink = SteadySink::new(alloc, 64)?;
+    assert_eq!(rt; run(alloc, &words(alloc)?, &mut desk, &mut sink), 3);
+    assert_eq!(rt; sink.written(), b"".as_slice());
+    Ok(())
+}
+
+#[test]
+fn bad_words_end_with_2(rt: HostRuntime) -> Result<(), Fail> {
+    let alloc = rt.alloc();
+    let option = vec![in alloc; text(alloc, "-book")?]?;
+    let two = vec![in alloc; text(alloc, "book")?, text(alloc, "book")?]?;
+    let none: Vec<Text> = Vec::new(alloc);
+    for words in [option, two, none] {
+        let mut desk = SteadyDesk::new(books(alloc, bytes(alloc, BOOK)?)?, bytes(alloc, SCRIPT)?);
+        let mut sink = SteadySink::new(alloc, 64)?;
+        assert_eq!(rt; run(alloc, &words, &mut desk, &mut sink), 2);
+        assert_eq!(rt; sink.written(), b"".as_slice());
+    }
+    Ok(())
+}
+
+#[test]
+fn a_script_past_its_limit_ends_with_7(rt: HostRuntime) -> Result<(), Fail> {
+    let alloc = rt.alloc();
+    for (size, status) in [(16_777_216, 0), (16_777_217, 7)] {
+        let script = vec![in alloc; b'\n'; size]?;
+        let (ended, written) = outcome(alloc, Vec::new(alloc), script)?;
+        assert_eq!(rt; ended, status);
+        assert_eq!(rt; written.as_slice(), b"".as_slice());
+    }
+    Ok(())
+}
+
+/// A run in pieces of three bytes whose k-th call of the desk and of the sink fails.
+fn failing(alloc: Global, desk_call: u64, sink_call: u64) -> Result<(u8, Vec<u8>), AllocError> {
+    let mut desk = MemoryDesk::new(
+        books(alloc, bytes(alloc, BOOK)?)?,
+        bytes(alloc, SCRIPT)?,
+        vec![in alloc; desk_call]?,
+        3,
+    );
+    let mut sink = MemorySink::new(alloc, 64, vec![in alloc; sink_call]?, 3)?;
+    let status = run(alloc, &words(alloc)?, &mut desk, &mut sink);
+    Ok((status, Vec::from_slice(alloc, sink.written())?))
+}
+
+#[test]
+fn a_desk_that_fails_ends_with_3(rt: HostRuntime) -> Result<(), Fail> {
+    let alloc = rt.alloc();
+    // One call opens the book; 30 bytes and 21 bytes are read by threes, and one call tells each end.
+    for call in 1..=20 {
+        let (status, written) = failing(alloc, call, 0)?;
+        assert_eq!(rt; status, 3);
+        assert_eq!(rt; written.as_slice(), b"".as_slice());
+    }
+    let (status, written) = failing(alloc, 21, 0)?;
+    assert_eq!(rt; status, 0);
+    assert_eq!(rt; written.as_slice(), OUTPUT.as_bytes());
+    Ok(())
+}
+
+#[test]
+fn a_sink_that_fails_ends_with_4(rt: HostRuntime) -> Result<(), Fail> {
+    let alloc = rt.alloc();
+    for (call, output) in [(1, ""), (2, "1,2"), (3, "1,2,3,"), (4, "1,2,3,6\n")] {
+        let (status, written) = failing(alloc, 0, call)?;
+        assert_eq!(rt; status, 4);
+        assert_eq!(rt; written.as_slice(), output.as_bytes());
+    }
+    let (status, written) = failing(alloc, 0, 5)?;
+    assert_eq!(rt; status, 0);
+    assert_eq!(rt; written.as_slice(), OUTPUT.as_bytes());
+    Ok(())
+}
+
+#[test]
+fn a_real_file_and_pipes_serve(rt: HostRuntime) -> Result<(), Fail> {
+    let alloc = rt.alloc();
+    let mut path = env::temp_dir(&rt)?;
+    path.push("calc-pipes.csv")?;
+    fs::write(&rt, &path, BOOK)?;
+    let name = path.to_str().ok_or("a path in UTF-8")?;
+    let words = vec![in alloc; text(alloc, name)?]?;
+    let mut written = Vec::new(alloc);
+    let mut desk = PipeDesk::new(&rt, SCRIPT.as_bytes());
+    let mut sink = PipeSink::new(&mut written);
+    let status = run(alloc, &words, &mut desk, &mut sink);
+    drop(sink);
+    fs::remove_file(&rt, &path)?;
+    assert_eq!(rt; status, 0);
+    assert_eq!(rt; written.as_slice(), OUTPUT.as_bytes());
+    Ok(())
+}
