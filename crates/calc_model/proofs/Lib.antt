@@ -11,4 +11,5 @@ pub mod Readiness
 pub mod Building
 mod FieldExamples
 mod ShownExamples
+mod StepExamples
 pub mod Reached
