@@ -12,4 +12,5 @@ pub mod Building
 mod FieldExamples
 mod ShownExamples
 mod StepExamples
+mod StaleExamples
 pub mod Reached
