@@ -42,7 +42,7 @@ all_range p a (suc n) h =
     let rest : list_all p (range_with_len (a + 1) n) ≡ true = all_range p (a + 1) n (λ x from to. h x (omega arith) (omega arith)) in
     rw (first, rest) refl
 
-pub list_all-flat_map : {X Y : Type 0} (p : Y → Bool) (f : X → List Y) (xs : List X) → list_all p (flat_map f xs) ≡ list_all (λ x. list_all p (f x)) xs
+list_all-flat_map : {X Y : Type 0} (p : Y → Bool) (f : X → List Y) (xs : List X) → list_all p (flat_map f xs) ≡ list_all (λ x. list_all p (f x)) xs
 list_all-flat_map p f [] = refl
 list_all-flat_map p f (x ∷ xs) = list_all-append p (f x) (flat_map f xs) ∙ ap (λ b. list_all p (f x) && b) (list_all-flat_map p f xs)
 

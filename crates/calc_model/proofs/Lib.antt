@@ -11,4 +11,6 @@ pub mod Readiness
 pub mod Building
 mod FieldExamples
 mod ShownExamples
+mod StepExamples
+mod StaleExamples
 pub mod Reached

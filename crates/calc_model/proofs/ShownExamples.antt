@@ -27,24 +27,24 @@ use Rattle.calc_model.proofs.Building.{eval_sum, scalar_of_one}
 use Rattle.calc_model.proofs.Shown.{shows_its_value, shows_its_circle}
 
 -- the cell of the first row in that column
-abbrev at : ℕ → Place
+abbrev pub at : ℕ → Place
 at col = record { sheet = 0; col = col; row = 1 }
 
-abbrev book_of : List (Place × Content) → Book
+abbrev pub book_of : List (Place × Content) → Book
 book_of cells = record { cells = cells; names = [] }
 
 -- the content that sums the cells of two columns
-abbrev sum : ℕ → ℕ → Content
+abbrev pub sum : ℕ → ℕ → Content
 sum left right = Formula (sum_of_cells (at left) (at right))
 
-abbrev whole : ℕ → Value
+abbrev pub whole : ℕ → Value
 whole n = Number (pos (n * 10 ^ 9))
 
 -- what a sum shows over what its cells show
 abbrev added : Value → Value → Value
 added left right = top (on_numbers (λ n m. checked (n +ℤ m)) left right)
 
-one_place : (col : ℕ) → places (single (at col)) ≡ at col ∷ []
+pub one_place : (col : ℕ) → places (single (at col)) ≡ at col ∷ []
 one_place col =
     let one : col + 1 - col ≡ 1 = omega arith in
     ap (λ n. flat_map (λ c. map (λ row. record { sheet = 0; col = c; row = row }) (1 ∷ [])) (range_with_len col n)) one
@@ -54,7 +54,7 @@ without_trues true true = refl
 without_trues true false = refl
 without_trues false c = refl
 
-areas_of_sum : (home : Place) (names : Names) (p q : Place) → areas home names (sum_of_cells p q) ≡ here (cell_reference p) home ∷ here (cell_reference q) home ∷ []
+pub areas_of_sum : (home : Place) (names : Names) (p q : Place) → areas home names (sum_of_cells p q) ≡ here (cell_reference p) home ∷ here (cell_reference q) home ∷ []
 areas_of_sum home names p q =
     fold.at-Binary (List Rectangle) (areas_step home names) Add (t.Ref (cell_reference p)) (t.Ref (cell_reference q))
     ∙ ap (λ front. front ++ areas home names (t.Ref (cell_reference q))) (fold.at-Ref (List Rectangle) (areas_step home names) (cell_reference p))
@@ -91,7 +91,7 @@ module _ (book : Book) (col left right : ℕ) (holds : content_at book (at col) 
   shows_circle circular = shows_its_circle book (at col) (sum_of_cells (at left) (at right)) holds circular
 
 -- 1,2,=[.A1]+[.B1],=[.C1]+[.C1]
-abbrev row_of_sums : Book
+abbrev pub row_of_sums : Book
 row_of_sums =
     book_of ((at 1, Constant (whole 1)) ∷ (at 2, Constant (whole 2)) ∷ (at 3, sum 1 2) ∷ (at 4, sum 3 3) ∷ [])
 
@@ -131,7 +131,7 @@ unfolding content_at formula_count
 a_cell_beside_a_circle_has_its_sum = shows_sum circle_of_one 4 2 2 refl (ap not (grounded_sum circle_of_one 4 2 2 refl 3))
 
 -- =[.B1]+[.C1],=[.A1]+[.C1],1
-abbrev circle_of_two : Book
+abbrev pub circle_of_two : Book
 circle_of_two = book_of ((at 1, sum 2 3) ∷ (at 2, sum 1 3) ∷ (at 3, Constant (whole 1)) ∷ [])
 
 the_first_of_two_that_read_each_other_is_circular : val circle_of_two (at 1) ≡ Bad Circular
@@ -143,7 +143,7 @@ unfolding content_at formula_count
 the_second_of_two_that_read_each_other_is_circular = shows_circle circle_of_two 2 1 3 refl (ap not (grounded_sum circle_of_two 2 1 3 refl 2 ∙ ap (λ b. b && true) (grounded_sum circle_of_two 1 2 3 refl 1 ∙ ap (λ b. b && true) (grounded_sum circle_of_two 2 1 3 refl 0))))
 
 -- 5,,=[.A1]+[.B1],=[.B1]+[.B1]
-abbrev row_with_a_gap : Book
+abbrev pub row_with_a_gap : Book
 row_with_a_gap = book_of ((at 1, Constant (whole 5)) ∷ (at 3, sum 1 2) ∷ (at 4, sum 2 2) ∷ [])
 
 an_empty_cell_is_blank : val row_with_a_gap (at 2) ≡ Blank

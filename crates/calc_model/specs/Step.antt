@@ -1,6 +1,6 @@
 -- A book after an edit, or the first cause that refuses it. A cell that is set holds the content, or nothing where
 -- that is empty; cells that are cleared hold nothing.
-use Rattle.std.specs.Prelude.{ℕ, nat_le, not, List, length, Result, Ok, Err, if◌then◌else◌}
+use Rattle.std.specs.Prelude.{nat_le, not, List, length, Result, Ok, Err, if◌then◌else◌}
 use Rattle.std.specs.List.{filter}
 use Rattle.calc_addr.specs.Cells.{Place, Rectangle, covers}
 use Rattle.calc_model.specs.declared.content.Content.{Content}
