@@ -9,5 +9,4 @@ pub mod Places
 pub mod Counting
 pub mod Readiness
 pub mod Building
-mod FieldExamples
 mod ShownExamples

@@ -1,5 +1,5 @@
-pub mod Cutting
-pub mod SumTexts
-pub mod Spelling
-pub mod SpelledPlaces
-pub mod SumLaws
+pub mod Signs
+pub mod Unquoting
+pub mod Chains
+pub mod Words
+mod FieldExamples

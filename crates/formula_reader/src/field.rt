@@ -1,5 +1,6 @@
-ghost use Rattle.calc_model.specs.Fields.{begins_formula, field_of, formula_or_raw};
-ghost use Rattle.calc_model.specs.Formulas.{formula_of};
+ghost use Rattle.calc_model.specs.Fields.{begins_formula};
+ghost use Rattle.formula_reader.specs.Fields.{field_of, formula_or_raw};
+ghost use Rattle.formula_reader.specs.Reading.{formula_of};
 ghost use Rattle.std.specs.Prelude.{IfOk, ◌≡◌};
 ghost use Rattle.std.specs.Str.{IsUtf8};
 

@@ -1,9 +1,13 @@
-//! The reading of fields: what a cell holds whose field is a given text.
+//! The reading of fields: what a cell holds whose field is a given text, after OpenFormula's expression
+//! syntax.
 #![tactic(auto)]
 
 mod constant;
+mod cursor;
 mod field;
 mod formula;
+mod operators;
+mod rows;
+mod tokens;
 
 pub use field::read_field;
-pub use formula::sums_are_spelled_once;
