@@ -2,4 +2,18 @@ pub mod Signs
 pub mod Unquoting
 pub mod Chains
 pub mod Words
+pub mod Fronts
+pub mod TreeCounts
+pub mod OperatorTexts
+pub mod Prefixes
+pub mod NumberFronts
+pub mod Quoting
+pub mod ErrorFronts
+pub mod ReferenceTexts
+pub mod ReferenceFronts
+pub mod Beginnings
+pub mod Primaries
+pub mod Runs
+pub mod SpellingsRead
+pub mod FormulasRead
 mod FieldExamples

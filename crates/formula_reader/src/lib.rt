@@ -6,8 +6,10 @@ mod constant;
 mod cursor;
 mod field;
 mod formula;
+mod laws;
 mod operators;
 mod rows;
 mod tokens;
 
 pub use field::read_field;
+pub use laws::formulas_are_spelled;

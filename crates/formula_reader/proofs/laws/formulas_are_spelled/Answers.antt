@@ -1,0 +1,5 @@
+use Rattle.formula_reader.proofs.FormulasRead.{formula_read, one_tree}
+use Rattle.formula_reader.proofs.laws.formulas_are_spelled.Goals as goal
+
+pub returns : goal.returns
+returns c = record { only = formula_read; one = one_tree }
