@@ -12,7 +12,7 @@ use Rattle.calc_model.specs.Tokens.{is_blank}
 use Rattle.calc_model.specs.declared.tree.Tree.{Tree}
 use Rattle.formula_reader.specs.Lefts.{◌>>=◌, is_at, skip}
 use Rattle.formula_reader.specs.Reading.{behind_front, comparison_of, formula_by, formula_of, whole, without}
-use Rattle.formula_reader.specs.Rows.{nested_at}
+use Rattle.formula_reader.specs.Rows.{comparison_at}
 use Rattle.formula_reader.proofs.Beginnings.{behind_blanks, is_row_start, row_begins}
 use Rattle.formula_reader.proofs.Fronts.{at, begins, begins_other, behind-all}
 use Rattle.formula_reader.proofs.SpellingsRead.{comparison_reads, row_read}
@@ -74,8 +74,8 @@ formula_read text tree s =
     short_enough text s.short
     ∙ ap (λ t. behind_front t >>= comparison_of) spelled.joined
     ∙ ap (λ o. o >>= comparison_of) (front_passed (spelled.blanks ++ comparison) spelled.is_front ends)
-    ∙ ap (λ t. nested_at 65 (at t 1024) >>= whole) (behind-all is_blank spelled.blanks comparison spelled.are_blank (begins_other is_blank is_row_start comparison row_no_blank starts) ∙ sym (append-nil comparison))
-    ∙ ap (λ n. nested_at 65 (at (comparison ++ []) n) >>= whole) all
+    ∙ ap (λ t. comparison_at 65 (at t 1024) >>= whole) (behind-all is_blank spelled.blanks comparison spelled.are_blank (begins_other is_blank is_row_start comparison row_no_blank starts) ∙ sym (append-nil comparison))
+    ∙ ap (λ n. comparison_at 65 (at (comparison ++ []) n) >>= whole) all
     ∙ ap (λ o. o >>= whole) (comparison_reads 64 comparison tree (row_read spelled.spelled 64 (record { opens = limits.opens; parameters = limits.parameters })) [] m refl (lit< tt))
 
 -- a text spells one tree

@@ -16,4 +16,8 @@ pub mod Primaries
 pub mod Runs
 pub mod SpellingsRead
 pub mod FormulasRead
+pub mod Steps
+pub mod LeavesSpelled
+pub mod OperatorsSpelled
+pub mod SignsSpelled
 mod FieldExamples

@@ -9,16 +9,16 @@ use Rattle.calc_model.specs.Tokens.{are_blanks, is_blank}
 use Rattle.calc_model.specs.declared.tree.Tree.{Tree}
 use Rattle.calc_model.specs.declared.tree.Tree.TheVariants as t
 use Rattle.formula_reader.specs.Lefts.{◌>>=◌, Left, behind}
-use Rattle.formula_reader.specs.Rows.{Read, is_sign, is_sign_or_blank, prefixed_at, prefixed_by, primary_at, sign_read, signed, signed_by}
+use Rattle.formula_reader.specs.Rows.{Inside, Read, is_sign, is_sign_or_blank, prefixed_at, prefixed_by, primary_at, sign_read, signed, signed_by}
 use Rattle.formula_reader.proofs.Fronts.{at, begins}
 
 -- the front of a text, and what stands behind it
-abbrev parted : (Left → Read) → List ℕ → List ℕ → ℕ → Read
+abbrev parted : Inside → List ℕ → List ℕ → ℕ → Read
 parted nested front rest n =
     let signs = count_by is_sign front in
     prefixed_by nested (nat_le signs n) front (at rest (n - signs))
 
-parted_at : (nested : Left → Read) (bytes : List ℕ) (n : ℕ) → prefixed_at nested (at bytes n) ≡ parted nested (take_while is_sign_or_blank bytes) (behind is_sign_or_blank bytes) n
+parted_at : (nested : Inside) (bytes : List ℕ) (n : ℕ) → prefixed_at nested (at bytes n) ≡ parted nested (take_while is_sign_or_blank bytes) (behind is_sign_or_blank bytes) n
 unfolding prefixed_at
 parted_at nested bytes n = refl
 
@@ -44,7 +44,7 @@ read_unsigned None = refl
 read_unsigned (Some read) = refl
 
 -- a primary without signs
-pub no_sign : (nested : Left → Read) (bytes : List ℕ) (n : ℕ) → begins is_sign_or_blank bytes ≡ false → prefixed_at nested (at bytes n) ≡ primary_at nested (at bytes n)
+pub no_sign : (nested : Inside) (bytes : List ℕ) (n : ℕ) → begins is_sign_or_blank bytes ≡ false → prefixed_at nested (at bytes n) ≡ primary_at nested (at bytes n)
 no_sign nested bytes n none =
     let less : n - 0 ≡ n = omega arith in
     parted_at nested bytes n
@@ -62,7 +62,7 @@ read_signed : (byte : ℕ) (front : List ℕ) (o : Option (Tree × Left)) → (o
 read_signed byte front None = refl
 read_signed byte front (Some read) = refl
 
-prefixed_more : (nested : Left → Read) (byte : ℕ) (front : List ℕ) (l : Left) (b : Bool) → prefixed_by nested b (byte ∷ front) l ≡ (prefixed_by nested b front l >>= signed_read byte)
+prefixed_more : (nested : Inside) (byte : ℕ) (front : List ℕ) (l : Left) (b : Bool) → prefixed_by nested b (byte ∷ front) l ≡ (prefixed_by nested b front l >>= signed_read byte)
 prefixed_more nested byte front l true = read_signed byte front (primary_at nested l)
 prefixed_more nested byte front l false = refl
 
@@ -72,7 +72,7 @@ signs_more byte front = sum_by-cons (λ x. cond (is_sign x) 1 0) byte front
 less_by_one : (signs n k : ℕ) → k ≡ 1 + n → nat_le (1 + signs) k ≡ nat_le signs n
 less_by_one signs n k e = grind (arith, nat_tests)
 
-parted_sign : (nested : Left → Read) (byte : ℕ) (front rest : List ℕ) (n k : ℕ) → is_sign byte ≡ true → k ≡ 1 + n → parted nested (byte ∷ front) rest k ≡ (parted nested front rest n >>= signed_read byte)
+parted_sign : (nested : Inside) (byte : ℕ) (front rest : List ℕ) (n k : ℕ) → is_sign byte ≡ true → k ≡ 1 + n → parted nested (byte ∷ front) rest k ≡ (parted nested front rest n >>= signed_read byte)
 parted_sign nested byte front rest n k sign e =
     let signs = count_by is_sign front in
     let count : count_by is_sign (byte ∷ front) ≡ 1 + signs = signs_more byte front ∙ ap (λ m. m + signs) (cond-true {A = ℕ} (is_sign byte) 1 0 sign) in
@@ -83,7 +83,7 @@ parted_sign nested byte front rest n k sign e =
     ∙ prefixed_more nested byte front (at rest (n - signs)) (nat_le signs n)
 
 -- what is behind a sign is read with it
-pub one_sign : (nested : Left → Read) (byte : ℕ) (bytes : List ℕ) (n k : ℕ) → is_sign byte ≡ true → k ≡ 1 + n → prefixed_at nested (at (byte ∷ bytes) k) ≡ (prefixed_at nested (at bytes n) >>= signed_read byte)
+pub one_sign : (nested : Inside) (byte : ℕ) (bytes : List ℕ) (n k : ℕ) → is_sign byte ≡ true → k ≡ 1 + n → prefixed_at nested (at (byte ∷ bytes) k) ≡ (prefixed_at nested (at bytes n) >>= signed_read byte)
 one_sign nested byte bytes n k sign e =
     let passes : is_sign_or_blank byte ≡ true = or_left (is_sign byte) (is_blank byte) sign in
     parted_at nested (byte ∷ bytes) k
@@ -104,7 +104,7 @@ read_blank : (byte : ℕ) (o : Option (Tree × Left)) → is_sign byte ≡ false
 read_blank byte None h = refl
 read_blank byte (Some read) h = ap (λ x. Some (x, read.1)) (signed_blank byte read.0 h)
 
-parted_blank : (nested : Left → Read) (byte : ℕ) (front rest : List ℕ) (n : ℕ) → is_sign byte ≡ false → parted nested (byte ∷ front) rest n ≡ parted nested front rest n
+parted_blank : (nested : Inside) (byte : ℕ) (front rest : List ℕ) (n : ℕ) → is_sign byte ≡ false → parted nested (byte ∷ front) rest n ≡ parted nested front rest n
 parted_blank nested byte front rest n h =
     let signs = count_by is_sign front in
     let count : count_by is_sign (byte ∷ front) ≡ signs = signs_more byte front ∙ omega (arith, cond-false {A = ℕ} (is_sign byte) 1 0 h) in
@@ -113,7 +113,7 @@ parted_blank nested byte front rest n h =
     ∙ read_blank byte (parted nested front rest n) h
 
 -- blanks between signs say nothing
-pub blanks_passed : (nested : Left → Read) (blanks bytes : List ℕ) (n : ℕ) → are_blanks blanks ≡ true → prefixed_at nested (at (blanks ++ bytes) n) ≡ prefixed_at nested (at bytes n)
+pub blanks_passed : (nested : Inside) (blanks bytes : List ℕ) (n : ℕ) → are_blanks blanks ≡ true → prefixed_at nested (at (blanks ++ bytes) n) ≡ prefixed_at nested (at bytes n)
 blanks_passed nested [] bytes n all = refl
 blanks_passed nested (byte ∷ blanks) bytes n all =
     let parts = and_parts (is_blank byte) (are_blanks blanks) all in

@@ -1,9 +1,9 @@
 -- How operands, parentheses and calls are read where something may follow them.
-use Rattle.std.proofs.Common.{◌≡◌, ◌≤◌, ◌<◌, ◌+◌, ◌-◌, ℕ, Bool, true, false, not, ◌||◌, cond, List, [], ◌∷◌, ◌++◌, length, drop, Option, Some, None, codes, refl, sym, ap, ◌∙◌, subst, append_assoc, arith}
+use Rattle.std.proofs.Common.{◌≡◌, ◌≤◌, ◌<◌, ◌+◌, ◌-◌, ℕ, Bool, true, false, not, ◌||◌, ◌&&◌, cond, List, [], ◌∷◌, ◌++◌, length, drop, Option, Some, None, codes, refl, sym, ap, ◌∙◌, subst, append_assoc, arith}
 use Rattle.std.specs.Prelude.{◌==◌, option_map}
 use Rattle.std.specs.Char.{is_ascii_digit}
 use Rattle.std.specs.List.{flat_map, take_while}
-use Rattle.std.proofs.lemmas.Bool.{cond-false, cond-true}
+use Rattle.std.proofs.lemmas.Bool.{and_from, cond-false, cond-true}
 use Rattle.std.proofs.lemmas.Bool.Decides.{nat_tests}
 use Rattle.calc_num.specs.Spelling.{reading}
 use Rattle.calc_model.specs.Grammar.{IsOperand, is_signed, error, large_number, name, number, reference, string}
@@ -18,7 +18,7 @@ use Rattle.formula_reader.specs.declared.rows.Start.{Start}
 use Rattle.formula_reader.specs.declared.rows.Start.TheVariants.{Operand, Parenthesis, Word}
 use Rattle.formula_reader.specs.Leaves.{error_at, number_at, number_tree, operand_at, reference_at, string_at}
 use Rattle.formula_reader.specs.Lefts.{◌>>=◌, Left, behind, is_at, past, token_at}
-use Rattle.formula_reader.specs.Rows.{Read, args_at, call_by, call_node, closed, name_read, operand_left, primary_at, primary_by, start_of, word_at, word_behind, word_by}
+use Rattle.formula_reader.specs.Rows.{Inside, Read, args_at, call_by, call_node, closed, name_read, operand_left, primary_at, primary_by, start_of, word_at, word_behind, word_by}
 use Rattle.formula_reader.proofs.Beginnings.{begins_more, behind_blanks, identifier_begins, identifier_bytes, is_number_start, number_begins}
 use Rattle.formula_reader.proofs.ErrorFronts.{error_in_front}
 use Rattle.formula_reader.proofs.Fronts.{Follows, Stops, Stops-append, at, begins, begins-append, begins_less, behind-all, is_no_follow, is_no_stop, past-blanks, past-token, take_while-all}
@@ -84,7 +84,7 @@ word_starts (byte ∷ rest) h = cond-false (byte == 40) _ _ (identifier_no_paren
 stop_in_identifier : (byte : ℕ) → is_no_stop byte ≡ false → is_in_identifier byte ≡ false
 stop_in_identifier byte h = grind (arith, nat_tests)
 
-module _ (nested : Left → Read) where
+module _ (nested : Inside) where
   -- a word, and what stands behind it
   pub word_in_front : (word behind : List ℕ) (l : Left) (n : ℕ) → is_identifier word ≡ true → begins is_in_identifier behind ≡ false → past n behind ≡ Some l → primary_at nested (at (word ++ behind) n) ≡ word_behind nested word l
   unfolding primary_at
@@ -137,7 +137,7 @@ module _ (nested : Left → Read) where
       ∙ word_in_front word (blanks ++ rest) (at rest m) n (name_is_identifier word h) ends (past-token blanks rest m n tokens all follows)
       ∙ name_behind word (at rest m) (follow_no_parenthesis rest follows) h
 
-  call_behind : (word inside : List ℕ) (n : ℕ) → is_identifier word ≡ true → word_behind nested word (at (40 ∷ inside) n) ≡ (past n inside >>= args_at nested >>= closed (call_node nested word))
+  call_behind : (word inside : List ℕ) (n : ℕ) → (is_identifier word && nested.opens) ≡ true → word_behind nested word (at (40 ∷ inside) n) ≡ (past n inside >>= args_at nested >>= closed (call_node nested word))
   unfolding word_behind
   call_behind word inside n h = ap (λ b. call_by nested b word (at (40 ∷ inside) n)) h
 
@@ -145,26 +145,26 @@ module _ (nested : Left → Read) where
   blank_no_identifier byte h = grind (arith, nat_tests)
 
   -- a call, by what its parameters are read as
-  pub call_read : (word blanks first text last rest : List ℕ) (args : List Tree) (m inside n : ℕ) → is_identifier word ≡ true → are_blanks blanks ≡ true → are_blanks first ≡ true → are_blanks last ≡ true
+  pub call_read : (word blanks first text last rest : List ℕ) (args : List Tree) (m inside n : ℕ) → is_identifier word ≡ true → nested.opens ≡ true → are_blanks blanks ≡ true → are_blanks first ≡ true → are_blanks last ≡ true
       → begins is_blank (text ++ (41 ∷ (last ++ rest))) ≡ false → Follows rest → n ≡ 2 + inside
       → args_at nested (at (text ++ (41 ∷ (last ++ rest))) inside) ≡ Some (args, at (41 ∷ (last ++ rest)) (1 + m))
       → primary_at nested (at (word ++ (blanks ++ (40 ∷ (first ++ (text ++ (41 ∷ (last ++ rest))))))) n) ≡ Some (call_node nested word args, at rest m)
-  call_read word blanks first text last rest args m inside n h a b c none follows tokens reads =
+  call_read word blanks first text last rest args m inside n h opens a b c none follows tokens reads =
       let back = text ++ (41 ∷ (last ++ rest)) in
       let ends = behind_blanks is_in_identifier blanks (40 ∷ (first ++ back)) blank_no_identifier a refl in
       word_in_front word (blanks ++ (40 ∷ (first ++ back))) (at (40 ∷ (first ++ back)) (1 + inside)) n h ends (past-blanks blanks (40 ∷ (first ++ back)) (1 + inside) n (omega arith) a refl)
-      ∙ call_behind word (first ++ back) (1 + inside) h
+      ∙ call_behind word (first ++ back) (1 + inside) (and_from (is_identifier word) nested.opens h opens)
       ∙ ap (λ o. o >>= args_at nested >>= closed (call_node nested word)) (past-blanks first back inside (1 + inside) refl b none)
       ∙ ap (λ o. o >>= closed (call_node nested word)) reads
       ∙ ap (λ o. option_map (λ (l : Left). (call_node nested word args, l)) o) (past-token last rest m (1 + m) refl c follows)
 
   -- a parenthesis, by what stands inside
   pub paren_read : (first text last rest : List ℕ) (x : Tree) (m inside n : ℕ) → are_blanks first ≡ true → are_blanks last ≡ true → begins is_blank (text ++ (41 ∷ (last ++ rest))) ≡ false → Follows rest → n ≡ 1 + inside
-      → nested (at (text ++ (41 ∷ (last ++ rest))) inside) ≡ Some (x, at (41 ∷ (last ++ rest)) (1 + m))
+      → nested.read (at (text ++ (41 ∷ (last ++ rest))) inside) ≡ Some (x, at (41 ∷ (last ++ rest)) (1 + m))
       → primary_at nested (at (40 ∷ (first ++ (text ++ (41 ∷ (last ++ rest))))) n) ≡ Some (t.Paren x, at rest m)
   unfolding primary_at
   paren_read first text last rest x m inside n b c none follows tokens reads =
       let back = text ++ (41 ∷ (last ++ rest)) in
-      ap (λ o. o >>= nested >>= closed t.Paren) (past-blanks first back inside n tokens b none)
+      ap (λ o. o >>= nested.read >>= closed t.Paren) (past-blanks first back inside n tokens b none)
       ∙ ap (λ o. o >>= closed t.Paren) reads
       ∙ ap (λ o. option_map (λ (l : Left). (t.Paren x, l)) o) (past-token last rest m (1 + m) refl c follows)

@@ -5,7 +5,7 @@ use Rattle.calc_model.specs.declared.tree.Tree.{Tree}
 use Rattle.formula_reader.specs.declared.operators.Tail.{Tail}
 use Rattle.formula_reader.specs.Lefts.{◌>>=◌, Left}
 use Rattle.formula_reader.specs.Operators.{attach}
-use Rattle.formula_reader.specs.Rows.{Read, arg_behind, chain, more_args, pushed, row_at, tail_at, tails_behind}
+use Rattle.formula_reader.specs.Rows.{Inside, Read, arg_behind, chain, more_args, pushed, row_at, tail_at, tails_behind}
 use Rattle.formula_reader.proofs.Chains.{arg_given, arg_stops, chain_goes, chain_stops, row_above}
 use Rattle.formula_reader.proofs.Fronts.{Follows, at}
 use Rattle.formula_reader.proofs.OperatorTexts.{row_behind, tail_none}
@@ -16,7 +16,7 @@ abbrev pub Reads : (Left → Read) → List ℕ → Tree → List ℕ → ℕ �
 Reads step text x rest m = step (at (text ++ rest) (tokens_of x + m)) ≡ Some (x, at rest m)
 
 -- the same, where an operator of the row may follow
-pub record Runs (nested : Left → Read) (row : ℕ) (text : List ℕ) (x : Tree) (rest : List ℕ) (m : ℕ) : Type 0 where
+pub record Runs (nested : Inside) (row : ℕ) (text : List ℕ) (x : Tree) (rest : List ℕ) (m : ℕ) : Type 0 where
   pub from : Tree
   pub after : Left
   pub turns : ℕ
@@ -25,11 +25,11 @@ pub record Runs (nested : Left → Read) (row : ℕ) (text : List ℕ) (x : Tree
   pub goes : (j : ℕ) → chain (tail_at (row_at nested row) (suc row)) attach (turns + j) from after ≡ chain (tail_at (row_at nested row) (suc row)) attach j x (at rest m)
 
 -- what is said of a text that stands in the row
-abbrev pub Claim : (Left → Read) → ℕ → List ℕ → Tree → Type 0
+abbrev pub Claim : Inside → ℕ → List ℕ → Tree → Type 0
 Claim nested zero text x = (rest : List ℕ) (m : ℕ) → Follows rest → Reads (row_at nested 0) text x rest m
 Claim nested (suc row) text x = (rest : List ℕ) (m : ℕ) → Follows rest → row < row_behind rest → Runs nested row text x rest m
 
-module _ (nested : Left → Read) where
+module _ (nested : Inside) where
   finish : (row : ℕ) (text : List ℕ) (x : Tree) (rest : List ℕ) (m : ℕ) → Runs nested row text x rest m → suc row < row_behind rest → Reads (row_at nested (suc row)) text x rest m
   unfolding row_at
   finish row text x rest m r h =

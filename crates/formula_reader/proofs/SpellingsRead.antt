@@ -1,6 +1,7 @@
 -- Every text that stands in a row of the grammar is read as its tree, where the limits hold.
 use Rattle.std.proofs.Common.{◌≡◌, ◌≤◌, ◌<◌, ◌+◌, ◌-◌, ℕ, zero, suc, max, Bool, true, false, ◌||◌, List, [], ◌∷◌, ◌++◌, length, Option, Some, None, refl, sym, ap, ◌∙◌, subst, append_assoc, lit<, arith}
 use Rattle.std.specs.Prelude.{◌==◌}
+use Rattle.std.proofs.lemmas.Bool.{lt-ltb}
 use Rattle.std.proofs.lemmas.Bool.Decides.{nat_tests}
 use Rattle.std.proofs.lemmas.List.{length-append}
 use Rattle.calc_model.specs.Grammar.{AreArgs, AreSomeArgs, IsOperand, IsPrimary, IsRow, call, in_capitals, lower, minus, more, none, one, op_row, op_text, operand, operated, parenthesis, percent, plus, primary, some}
@@ -10,7 +11,7 @@ use Rattle.calc_model.specs.declared.tree.Tree.{Tree}
 use Rattle.calc_model.specs.declared.tree.Tree.TheVariants as t
 use Rattle.formula_reader.specs.declared.operators.Tail.TheVariants as tails
 use Rattle.formula_reader.specs.Lefts.{◌>>=◌, Left, is_at}
-use Rattle.formula_reader.specs.Rows.{Read, arg_behind, args_at, args_by, infix_tail, nested_at, prefixed_at, primary_at, row_at, is_sign, signed_by, tail_at}
+use Rattle.formula_reader.specs.Rows.{Inside, Read, arg_behind, args_at, args_by, comparison_at, infix_tail, nested_at, prefixed_at, primary_at, row_at, is_sign, signed_by, tail_at}
 use Rattle.formula_reader.proofs.Beginnings.{behind_blanks, is_row_start, primary_begins, primary_no_signs, row_begins, row_no_blanks, some_begins}
 use Rattle.formula_reader.proofs.Chains.{arg_given, args_first}
 use Rattle.formula_reader.proofs.Fronts.{Follows, at, begins, begins-append, begins_other, past-blanks}
@@ -21,7 +22,7 @@ use Rattle.formula_reader.proofs.Runs.{ArgRuns, Claim, Reads, Runs, all_args, ar
 use Rattle.formula_reader.proofs.TreeCounts.{Within, all_tokens, all_tokens_push, binary_counts, call_counts, minus_counts, most_open, most_open_push, most_parameters, most_parameters_push, open_of, operand_tokens, paren_counts, parameters_of, percent_counts, plus_counts, tokens_of}
 
 -- a sign in front of what is read
-sign_read : (nested : Left → Read) (byte : ℕ) (blanks text rest : List ℕ) (x node : Tree) (m : ℕ) → is_sign byte ≡ true → are_blanks blanks ≡ true → tokens_of node ≡ tokens_of x + 1 → signed_by byte x ≡ node → Reads (prefixed_at nested) text x rest m → prefixed_at nested (at (byte ∷ ((blanks ++ text) ++ rest)) (tokens_of node + m)) ≡ Some (node, at rest m)
+sign_read : (nested : Inside) (byte : ℕ) (blanks text rest : List ℕ) (x node : Tree) (m : ℕ) → is_sign byte ≡ true → are_blanks blanks ≡ true → tokens_of node ≡ tokens_of x + 1 → signed_by byte x ≡ node → Reads (prefixed_at nested) text x rest m → prefixed_at nested (at (byte ∷ ((blanks ++ text) ++ rest)) (tokens_of node + m)) ≡ Some (node, at rest m)
 sign_read nested byte blanks text rest x node m sign all tokens made reads =
     one_sign nested byte ((blanks ++ text) ++ rest) (tokens_of x + m) (tokens_of node + m) sign (omega arith)
     ∙ ap (λ bytes. prefixed_at nested (at bytes (tokens_of x + m)) >>= signed_read byte) (append_assoc blanks text rest)
@@ -38,7 +39,7 @@ row_no_second byte h = grind (arith, nat_tests)
 row_no_end : (byte : ℕ) → is_row_start byte ≡ true → (byte == 41) ≡ false
 row_no_end byte h = grind (arith, nat_tests)
 
-infix_read : (nested : Left → Read) (row : ℕ) (op : Op) (blanks left right rest : List ℕ) (x y : Tree) (m : ℕ) → Claim nested (suc row) left x → op_row op ≡ suc row → are_blanks blanks ≡ true → begins is_row_start right ≡ true → Follows rest → Reads (row_at nested row) right y rest m → Runs nested row (left ++ (op_text op ++ (blanks ++ right))) (t.Binary op x y) rest m
+infix_read : (nested : Inside) (row : ℕ) (op : Op) (blanks left right rest : List ℕ) (x y : Tree) (m : ℕ) → Claim nested (suc row) left x → op_row op ≡ suc row → are_blanks blanks ≡ true → begins is_row_start right ≡ true → Follows rest → Reads (row_at nested row) right y rest m → Runs nested row (left ++ (op_text op ++ (blanks ++ right))) (t.Binary op x y) rest m
 infix_read nested row op blanks left right rest x y m claim here all starts follows reads =
     let below = row_at nested row in
     let back = op_text op ++ (blanks ++ (right ++ rest)) in
@@ -56,7 +57,7 @@ infix_read nested row op blanks left right rest x y m claim here all starts foll
     one_more nested row left (left ++ (op_text op ++ (blanks ++ right))) x (t.Binary op x y) (tails.Infix op y) back rest m n
     (claim back n (Follows-infix op (blanks ++ (right ++ rest))) (omega arith)) joined (omega arith) refl (omega arith) next
 
-percent_read : (nested : Left → Read) (blanks text rest : List ℕ) (x : Tree) (m : ℕ) → Claim nested 1 text x → are_blanks blanks ≡ true → Follows rest → Runs nested 0 (text ++ (37 ∷ blanks)) (t.Percent x) rest m
+percent_read : (nested : Inside) (blanks text rest : List ℕ) (x : Tree) (m : ℕ) → Claim nested 1 text x → are_blanks blanks ≡ true → Follows rest → Runs nested 0 (text ++ (37 ∷ blanks)) (t.Percent x) rest m
 percent_read nested blanks text rest x m claim all follows =
     let counts = (percent_counts x).tokens in
     let back = 37 ∷ (blanks ++ rest) in
@@ -64,19 +65,19 @@ percent_read nested blanks text rest x m claim all follows =
     (claim back (1 + m) refl (omega arith)) (append_assoc text (37 ∷ blanks) rest) (omega arith) refl (omega arith)
     (tail_percent (row_at nested 0) blanks rest m (1 + m) refl all follows)
 
-pub comparison_reads : (levels : ℕ) (text : List ℕ) (x : Tree) → Claim (nested_at levels) 6 text x → (rest : List ℕ) (m : ℕ) → Follows rest → 6 < row_behind rest → Reads (nested_at (suc levels)) text x rest m
-unfolding nested_at
+pub comparison_reads : (levels : ℕ) (text : List ℕ) (x : Tree) → Claim (nested_at levels) 6 text x → (rest : List ℕ) (m : ℕ) → Follows rest → 6 < row_behind rest → Reads (comparison_at (suc levels)) text x rest m
+unfolding comparison_at
 comparison_reads levels text x claim rest m follows h = claim_reads (nested_at levels) 6 text x claim rest m follows h
 
-no_args : (nested : Left → Read) (rest : List ℕ) (m n : ℕ) → n ≡ m → args_at nested (at (41 ∷ rest) n) ≡ Some ([], at (41 ∷ rest) m)
+no_args : (nested : Inside) (rest : List ℕ) (m n : ℕ) → n ≡ m → args_at nested (at (41 ∷ rest) n) ≡ Some ([], at (41 ∷ rest) m)
 unfolding args_at
 no_args nested rest m n e = ap (λ k. Some ([], at (41 ∷ rest) k)) e
 
-some_args : (nested : Left → Read) (text rest : List ℕ) (args : List Tree) (m : ℕ) → begins is_row_start text ≡ true → length args ≤ 30 → ArgRuns nested text args (41 ∷ rest) m → args_at nested (at (text ++ (41 ∷ rest)) (args_tokens args + m)) ≡ Some (args, at (41 ∷ rest) m)
+some_args : (nested : Inside) (text rest : List ℕ) (args : List Tree) (m : ℕ) → begins is_row_start text ≡ true → length args ≤ 30 → ArgRuns nested.read text args (41 ∷ rest) m → args_at nested (at (text ++ (41 ∷ rest)) (args_tokens args + m)) ≡ Some (args, at (41 ∷ rest) m)
 some_args nested text rest args m starts short r =
     let l = at (text ++ (41 ∷ rest)) (args_tokens args + m) in
     args_first nested l (r.from, r.after) (other_at (text ++ (41 ∷ rest)) (begins_other (λ b. b == 41) is_row_start (text ++ (41 ∷ rest)) row_no_end (begins-append is_row_start text (41 ∷ rest) starts))) r.starts
-    ∙ all_args nested text args rest m r short (r.from, r.after) r.starts
+    ∙ all_args nested.read text args rest m r short (r.from, r.after) r.starts
   where
     other_at : (bytes : List ℕ) → begins (λ b. b == 41) bytes ≡ false → is_at 41 bytes ≡ false
     other_at [] h = refl
@@ -153,7 +154,7 @@ mutual
       let parameters = within.parameters in
       let node = t.Call (in_capitals word) args in
       ap (λ bytes. primary_at (nested_at (suc levels)) (at bytes (tokens_of node + m))) (call_parts word blanks first text last rest)
-      ∙ call_read (nested_at (suc levels)) word blanks first text last rest args m (args_tokens args + (1 + m)) (tokens_of node + m) h a b c (args_no_blank (last ++ rest) p) follows (omega arith)
+      ∙ call_read (nested_at (suc levels)) word blanks first text last rest args m (args_tokens args + (1 + m)) (tokens_of node + m) h (lt-ltb 0 (suc levels) (omega arith)) a b c (args_no_blank (last ++ rest) p) follows (omega arith)
       (args_read p levels (omega arith) (omega arith) (omega arith) (last ++ rest) (1 + m))
 
   args_read : {text : List ℕ} {args : List Tree} → AreArgs text args → (levels : ℕ) → most_open args ≤ levels → most_parameters args ≤ 30 → length args ≤ 30 → (rest : List ℕ) (m : ℕ) → args_at (nested_at (suc levels)) (at (text ++ (41 ∷ rest)) (args_tokens args + m)) ≡ Some (args, at (41 ∷ rest) m)
@@ -161,11 +162,11 @@ mutual
   args_read (some {text = text} {args = args} p) levels opens parameters short rest m =
       some_args (nested_at (suc levels)) text rest args m (some_begins p) short (some_read p levels opens parameters (41 ∷ rest) m refl (lit< tt))
 
-  some_read : {text : List ℕ} {args : List Tree} → AreSomeArgs text args → (levels : ℕ) → most_open args ≤ levels → most_parameters args ≤ 30 → (rest : List ℕ) (m : ℕ) → Follows rest → 6 < row_behind rest → ArgRuns (nested_at (suc levels)) text args rest m
+  some_read : {text : List ℕ} {args : List Tree} → AreSomeArgs text args → (levels : ℕ) → most_open args ≤ levels → most_parameters args ≤ 30 → (rest : List ℕ) (m : ℕ) → Follows rest → 6 < row_behind rest → ArgRuns (comparison_at (suc levels)) text args rest m
   some_read (one {text = text} {x = x} r) levels opens parameters rest m follows h =
-      one_arg (nested_at (suc levels)) text x rest m (comparison_reads levels text x (row_read r levels (record { opens = omega arith; parameters = omega arith })) rest m follows h)
+      one_arg (comparison_at (suc levels)) text x rest m (comparison_reads levels text x (row_read r levels (record { opens = omega arith; parameters = omega arith })) rest m follows h)
   some_read (more {front = front} {text = text} {args = args} {x = x} blanks p all r) levels opens parameters rest m follows h =
-      let nested = nested_at (suc levels) in
+      let nested = comparison_at (suc levels) in
       let back = 59 ∷ (blanks ++ (text ++ rest)) in
       let n = 1 + (tokens_of x + m) in
       let opened = most_open_push args x in

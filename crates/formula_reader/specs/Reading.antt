@@ -3,7 +3,7 @@ use Rattle.std.specs.Prelude.{ℕ, ◌==◌, nat_eq, nat_lt, Bool, true, false, 
 use Rattle.std.specs.List.{starts_with}
 use Rattle.calc_model.specs.declared.tree.Tree.{Tree}
 use Rattle.formula_reader.specs.Lefts.{◌>>=◌, Left, is_at, skip}
-use Rattle.formula_reader.specs.Rows.{nested_at}
+use Rattle.formula_reader.specs.Rows.{comparison_at}
 
 -- without the byte in front, if it is this one
 abbrev pub without : ℕ → List ℕ → List ℕ
@@ -22,7 +22,7 @@ abbrev pub whole : Tree × Left → Option Tree
 whole read = if length read.1.bytes == 0 then Some read.0 else None
 
 abbrev pub comparison_of : List ℕ → Option Tree
-comparison_of bytes = nested_at 65 (record { bytes = skip bytes; tokens = 1024 }) >>= whole
+comparison_of bytes = comparison_at 65 (record { bytes = skip bytes; tokens = 1024 }) >>= whole
 
 abbrev pub formula_by : Bool → List ℕ → Option Tree
 formula_by true text = None

@@ -1,6 +1,6 @@
 -- The rows of the grammar as a reading from the left: the tree, and what is left behind it. What stands inside
 -- parentheses is read by a function that is passed in, and which may read one level less.
-use Rattle.std.specs.Prelude.{ℕ, suc, zero, ◌==◌, ◌-◌, ◌||◌, ◌++◌, nat_le, Bool, true, false, List, [], ◌∷◌, Option, Some, None, if◌then◌else◌, option_map}
+use Rattle.std.specs.Prelude.{ℕ, suc, zero, ◌==◌, ◌-◌, ◌||◌, ◌&&◌, ◌++◌, nat_le, nat_lt, Bool, true, false, List, [], ◌∷◌, Option, Some, None, if◌then◌else◌, option_map}
 use Rattle.std.specs.List.{count_by, take_while}
 use Rattle.calc_model.specs.Grammar.{in_capitals}
 use Rattle.calc_model.specs.Tokens.{begins_identifier, is_blank, is_identifier, is_in_identifier, is_name}
@@ -21,6 +21,11 @@ use Rattle.formula_reader.specs.Operators.{attach, of_row, operator_at}
 -- a tree and what is left behind it
 abbrev pub Read : Type 0
 Read = Option (Tree × Left)
+
+-- Whether one more parenthesis may be opened, and how a comparison inside it is read.
+pub record Inside : Type 0 where
+  pub opens : Bool
+  pub read : Left → Read
 
 -- the rest of a chain: with one more item, or to its end
 abbrev pub goes_on : {S I : Type 0} → (S → Left → Option (S × Left)) → (S → I → S) → S → Left → Option (I × Left) → Option (S × Left)
@@ -71,11 +76,11 @@ arg_read read = Some (Some read)
 abbrev pub name_read : List ℕ → Left → Read
 name_read name l = if is_name name then Some (t.Name name, l) else None
 
-module _ (nested : Left → Read) where
+module _ (comparison : Left → Read) where
   -- a parameter behind its semicolon
   abbrev pub next_arg : Bool → Left → Option (Option (Tree × Left))
   next_arg false l = Some None
-  next_arg true l = token_at 59 l >>= nested >>= arg_read
+  next_arg true l = token_at 59 l >>= comparison >>= arg_read
 
   unfoldable pub arg_behind : Left → Option (Option (Tree × Left))
   arg_behind l = next_arg (is_at 59 l.bytes) l
@@ -83,9 +88,10 @@ module _ (nested : Left → Read) where
   abbrev pub more_args : Tree × Left → Option (List Tree × Left)
   more_args first = chain arg_behind pushed 29 (first.0 ∷ []) first.1
 
+module _ (nested : Inside) where
   abbrev pub args_by : Bool → Left → Option (List Tree × Left)
   args_by true l = Some ([], l)
-  args_by false l = nested l >>= more_args
+  args_by false l = nested.read l >>= more_args nested.read
 
   -- the parameters behind a call's parenthesis
   unfoldable pub args_at : Left → Option (List Tree × Left)
@@ -100,7 +106,7 @@ module _ (nested : Left → Read) where
   call_by true name l = token_at 40 l >>= args_at >>= closed (call_node name)
 
   abbrev pub word_by : Bool → List ℕ → Left → Read
-  word_by true name l = call_by (is_identifier name) name l
+  word_by true name l = call_by (is_identifier name && nested.opens) name l
   word_by false name l = name_read name l
 
   -- a call or a name, by what stands behind the word
@@ -111,7 +117,7 @@ module _ (nested : Left → Read) where
   word_at l = past l.tokens (behind is_in_identifier l.bytes) >>= word_behind (take_while is_in_identifier l.bytes)
 
   abbrev pub primary_by : Start → Left → Read
-  primary_by Parenthesis l = token_at 40 l >>= nested >>= closed t.Paren
+  primary_by Parenthesis l = token_at 40 l >>= nested.read >>= closed t.Paren
   primary_by Word l = word_at l
   primary_by Operand l = operand_at l.bytes >>= operand_left l.tokens
 
@@ -152,7 +158,7 @@ module _ (below : Left → Read) where
   unfoldable pub tail_at : ℕ → Left → Option (Option (Tail × Left))
   tail_at row l = tail_by (of_row row (operator_at l.bytes)) l.tokens
 
-module _ (nested : Left → Read) where
+module _ (nested : Inside) where
   abbrev pub tails_behind : (Left → Read) → ℕ → Tree × Left → Read
   tails_behind below row first = chain (tail_at below row) attach first.1.tokens first.0 first.1
 
@@ -162,6 +168,10 @@ module _ (nested : Left → Read) where
   row_at (suc row) l = row_at row l >>= tails_behind (row_at row) (suc row)
 
 -- a comparison with so many levels of parentheses, its own included
-unfoldable pub nested_at : ℕ → Left → Read
-nested_at zero l = None
-nested_at (suc levels) l = row_at (nested_at levels) 6 l
+unfoldable pub comparison_at : ℕ → Left → Read
+comparison_at zero l = None
+comparison_at (suc levels) l = row_at (record { opens = nat_lt 0 levels; read = comparison_at levels }) 6 l
+
+-- what may stand inside parentheses, where so many levels are left
+abbrev pub nested_at : ℕ → Inside
+nested_at levels = record { opens = nat_lt 0 levels; read = comparison_at levels }

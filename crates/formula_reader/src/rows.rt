@@ -1,7 +1,7 @@
 ghost use Rattle.calc_model.specs.Grammar.{in_capitals};
 ghost use Rattle.calc_model.specs.Tokens.{is_in_identifier};
 ghost use Rattle.formula_reader.specs.Lefts.{Gives, behind, left, tree_left, trees_left};
-ghost use Rattle.formula_reader.specs.Rows.{args_at, is_sign, is_sign_or_blank, name_read, nested_at, prefixed_at, primary_at, row_at, signed, signed_by, start_of, tail_at, tail_left, word_at};
+ghost use Rattle.formula_reader.specs.Rows.{args_at, comparison_at, is_sign, is_sign_or_blank, name_read, nested_at, prefixed_at, primary_at, row_at, signed, signed_by, start_of, tail_at, tail_left, word_at};
 ghost use Rattle.std.specs.List.{count_by, prefix_len, take_while};
 ghost use Rattle.std.specs.Prelude.{IfOk, length, ◌-◌, ◌<◌, ◌≡◌, ◌≤◌};
 ghost use Rattle.std.specs.Str.{IsUtf8};
@@ -24,13 +24,13 @@ const MORE_PARAMETERS: usize = 29;
 /// A comparison with so many levels of parentheses, its own included. Linear in what is read; the
 /// stack grows with the levels alone.
 #[cycle(reading)]
-#[tactic(auto, unfolding(crate::specs::Rows::nested_at))]
+#[tactic(auto, unfolding(crate::specs::Rows::comparison_at))]
 pub(crate) fn comparison(
     alloc: Global,
     levels: u8,
     cursor: Cursor<'_>,
 ) -> Result<(Tree, Cursor<'_>), Stop>
-    ensures { Gives tree_left result (nested_at levels (left cursor.entry)) }
+    ensures { Gives tree_left result (comparison_at levels (left cursor.entry)) }
 {
     if levels == 0 {
         return Err(Stop::Unspelled);
@@ -157,7 +157,7 @@ fn word(alloc: Global, levels: u8, cursor: Cursor<'_>) -> Result<(Tree, Cursor<'
     if !is_at(b'(', behind.bytes) {
         return name(alloc, word, behind);
     }
-    if !is_identifier(word) {
+    if levels == 0 || !is_identifier(word) {
         return Err(Stop::Unspelled);
     }
     let (args, rest) = arguments(alloc, levels, token(b'(', behind)?)?;

@@ -3,7 +3,7 @@ use Rattle.std.proofs.Common.{◌≡◌, ◌<◌, ◌≤◌, ◌-◌, ◌+◌, �
 use Rattle.std.proofs.lemmas.Result.{err_from_is_err_and}
 use Rattle.formula_reader.specs.Lefts.{◌>>=◌, is_at, left, tree_left, token_at}
 use Rattle.formula_reader.specs.Operators.{attach}
-use Rattle.formula_reader.specs.Rows.{Read, arg_behind, args_at, chain, nested_at, pushed, row_at, tail_at, tail_left, tails_behind}
+use Rattle.formula_reader.specs.Rows.{Read, arg_behind, args_at, chain, comparison_at, nested_at, pushed, row_at, tail_at, tail_left, tails_behind}
 use Rattle.formula_reader.proofs.Chains.{arg_given, arg_stops, arg_tokenless, arg_unread, args_fail, args_first, chain_ends, chain_fails, chain_goes, chain_stops, fails_along, row_above}
 use Rattle.formula_reader.proofs.Words.{identifier_IsUtf8}
 use Rattle.formula_reader.proofs.rows.+reading.Goals as goal
@@ -11,16 +11,16 @@ use Rattle.formula_reader.proofs.rows.+reading.Goals as goal
 pub arguments-returns-then-not-is_at : goal.arguments-returns-then-not-is_at
 arguments-returns-then-not-is_at t c =
     sym c.loop.invariant
-    ∙ chain_stops (arg_behind (nested_at c.args.levels)) pushed (29 - c.loop.counter) c.loop.args (left c.loop.rest)
-    (arg_stops (nested_at c.args.levels) (left c.loop.rest) (sym c.is_at-in-loop.ensures ∙ c.if-not-is_at.true))
+    ∙ chain_stops (arg_behind (comparison_at c.args.levels)) pushed (29 - c.loop.counter) c.loop.args (left c.loop.rest)
+    (arg_stops (comparison_at c.args.levels) (left c.loop.rest) (sym c.is_at-in-loop.ensures ∙ c.if-not-is_at.true))
 
 pub arguments-returns-in_err-token : goal.arguments-returns-in_err-token
 arguments-returns-in_err-token t c =
     let p = err_from_is_err_and c.from_residual-in_err-token.result c.from_residual-in_err-token.ensures.1 in
     let l = left c.loop.rest in
     rw (p.1, p.2)
-    (args_fail (nested_at c.args.levels) c.in_err-token.field-0.0 (token_at 59 l) (29 - c.loop.counter) c.loop.args l (args_at (nested_at c.args.levels) (left c.args.cursor))
-    (omega arith) (arg_tokenless (nested_at c.args.levels) l (sym c.is_at-in-loop.ensures ∙ c.if-not-is_at.false)) c.loop.invariant c.in_err-token.ensures)
+    (args_fail (comparison_at c.args.levels) c.in_err-token.field-0.0 (token_at 59 l) (29 - c.loop.counter) c.loop.args l (args_at (nested_at c.args.levels) (left c.args.cursor))
+    (omega arith) (arg_tokenless (comparison_at c.args.levels) l (sym c.is_at-in-loop.ensures ∙ c.if-not-is_at.false)) c.loop.invariant c.in_err-token.ensures)
 
 pub arguments-returns-in_err-arg : goal.arguments-returns-in_err-arg
 arguments-returns-in_err-arg t c =
@@ -28,12 +28,12 @@ arguments-returns-in_err-arg t c =
     let l = left c.loop.rest in
     let after = left c.in_ok-token.field-0 in
     rw (p.1, p.2)
-    (args_fail (nested_at c.args.levels) c.in_err-arg.field-0.0 (nested_at c.args.levels after) (29 - c.loop.counter) c.loop.args l (args_at (nested_at c.args.levels) (left c.args.cursor))
-    (omega arith) (arg_unread (nested_at c.args.levels) l after (sym c.is_at-in-loop.ensures ∙ c.if-not-is_at.false) c.in_ok-token.ensures) c.loop.invariant c.in_err-arg.ensures)
+    (args_fail (comparison_at c.args.levels) c.in_err-arg.field-0.0 (comparison_at c.args.levels after) (29 - c.loop.counter) c.loop.args l (args_at (nested_at c.args.levels) (left c.args.cursor))
+    (omega arith) (arg_unread (comparison_at c.args.levels) l after (sym c.is_at-in-loop.ensures ∙ c.if-not-is_at.false) c.in_ok-token.ensures) c.loop.invariant c.in_err-arg.ensures)
 
 pub arguments-loop-preserved : goal.arguments-loop-preserved
 arguments-loop-preserved t c =
-    let nested = nested_at c.args.levels in
+    let nested = comparison_at c.args.levels in
     let l = left c.loop.rest in
     let given = arg_given nested l (left c.in_ok-token.field-0) (c.in_ok-arg.arg, left c.in_ok-arg.behind) (sym c.is_at-in-loop.ensures ∙ c.if-not-is_at.false) c.in_ok-token.ensures c.in_ok-arg.ensures in
     let less : 29 - (c.loop.counter + 1) ≡ 29 - c.loop.counter - 1 = omega arith in
@@ -45,7 +45,7 @@ arguments-loop-preserved t c =
 pub arguments-returns : goal.arguments-returns
 arguments-returns t c =
     sym c.loop.invariant
-    ∙ chain_ends (arg_behind (nested_at c.args.levels)) pushed (29 - c.loop.counter) c.loop.args (left c.loop.rest) (omega arith)
+    ∙ chain_ends (arg_behind (comparison_at c.args.levels)) pushed (29 - c.loop.counter) c.loop.args (left c.loop.rest) (omega arith)
 
 pub operands-returns-in_err-tail : goal.operands-returns-in_err-tail
 operands-returns-in_err-tail t c =

@@ -2,7 +2,7 @@
 use Rattle.std.proofs.Common.{◌≡◌, ◌+◌, ◌*◌, ◌-◌, [], ◌∷◌}
 use Rattle.formula_reader.specs.Lefts.{left}
 use Rattle.formula_reader.specs.Operators.{attach}
-use Rattle.formula_reader.specs.Rows.{arg_behind, args_at, chain, nested_at, pushed, row_at, tail_at}
+use Rattle.formula_reader.specs.Rows.{arg_behind, args_at, chain, comparison_at, nested_at, pushed, row_at, tail_at}
 use Rattle.formula_reader.proofs.rows.+reading.Given as goal
 
 abbrev pub decreases-comparison : goal.decreases-comparison
@@ -33,5 +33,5 @@ invariant-operands-loop l =
 
 abbrev pub invariant-arguments-loop : goal.invariant-arguments-loop
 invariant-arguments-loop l =
-    chain (arg_behind (nested_at l.levels)) pushed (29 - l.counter) l.args (left l.rest)
+    chain (arg_behind (comparison_at l.levels)) pushed (29 - l.counter) l.args (left l.rest)
     ≡ args_at (nested_at l.levels) (left l.fn.cursor)
