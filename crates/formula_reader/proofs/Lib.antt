@@ -20,4 +20,7 @@ pub mod Steps
 pub mod LeavesSpelled
 pub mod OperatorsSpelled
 pub mod SignsSpelled
+pub mod RowsSpelled
+pub mod FormulasSpelled
+pub mod FieldsRead
 mod FieldExamples

@@ -83,10 +83,10 @@ some_args nested text rest args m starts short r =
     other_at [] h = refl
     other_at (byte ∷ bytes) h = h
 
-paren_parts : (first text last rest : List ℕ) → (40 ∷ (first ++ (text ++ (41 ∷ last)))) ++ rest ≡ 40 ∷ (first ++ (text ++ (41 ∷ (last ++ rest))))
+pub paren_parts : (first text last rest : List ℕ) → (40 ∷ (first ++ (text ++ (41 ∷ last)))) ++ rest ≡ 40 ∷ (first ++ (text ++ (41 ∷ (last ++ rest))))
 paren_parts first text last rest = ap (λ b. 40 ∷ b) (append_assoc first (text ++ (41 ∷ last)) rest ∙ ap (λ b. first ++ b) (append_assoc text (41 ∷ last) rest))
 
-call_parts : (word blanks first text last rest : List ℕ) → (word ++ (blanks ++ (40 ∷ (first ++ (text ++ (41 ∷ last)))))) ++ rest ≡ word ++ (blanks ++ (40 ∷ (first ++ (text ++ (41 ∷ (last ++ rest))))))
+pub call_parts : (word blanks first text last rest : List ℕ) → (word ++ (blanks ++ (40 ∷ (first ++ (text ++ (41 ∷ last)))))) ++ rest ≡ word ++ (blanks ++ (40 ∷ (first ++ (text ++ (41 ∷ (last ++ rest))))))
 call_parts word blanks first text last rest =
     append_assoc word (blanks ++ (40 ∷ (first ++ (text ++ (41 ∷ last))))) rest
     ∙ ap (λ b. word ++ b) (append_assoc blanks (40 ∷ (first ++ (text ++ (41 ∷ last)))) rest ∙ ap (λ b. blanks ++ b) (paren_parts first text last rest))

@@ -12,4 +12,4 @@ mod rows;
 mod tokens;
 
 pub use field::read_field;
-pub use laws::formulas_are_spelled;
+pub use laws::{fields_are_spelled, formulas_are_spelled};

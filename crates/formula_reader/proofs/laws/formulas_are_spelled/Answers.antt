@@ -1,5 +1,6 @@
 use Rattle.formula_reader.proofs.FormulasRead.{formula_read, one_tree}
+use Rattle.formula_reader.proofs.FormulasSpelled.{formula_spelled}
 use Rattle.formula_reader.proofs.laws.formulas_are_spelled.Goals as goal
 
 pub returns : goal.returns
-returns c = record { only = formula_read; one = one_tree }
+returns c = record { reads = formula_spelled; only = formula_read; one = one_tree }
