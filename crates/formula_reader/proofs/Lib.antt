@@ -23,4 +23,6 @@ pub mod SignsSpelled
 pub mod RowsSpelled
 pub mod FormulasSpelled
 pub mod FieldsRead
+pub mod Capitals
+pub mod FormedSpellings
 mod FieldExamples
