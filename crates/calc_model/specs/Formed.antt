@@ -1,7 +1,7 @@
 -- Which trees a formula can be: each child stands at a row of the grammar that its place allows, each number
 -- isn't negative, each error is one of the eight constants, names and the names of calls are spelled so, the
 -- latter without small letters, and the counts are within the limits.
-use Rattle.std.specs.Prelude.{ℕ, ℤ, pos, negsuc, ◌+◌, ◌-◌, ◌&&◌, nat_le, nat_lt, Bool, true, false, List}
+use Rattle.std.specs.Prelude.{ℕ, ℤ, pos, negsuc, ◌-◌, ◌&&◌, nat_le, Bool, true, false}
 use Rattle.std.specs.List.{list_all}
 use Rattle.std.specs.Str.{is_utf8}
 use Rattle.calc_model.specs.declared.tree.Tree.{Tree}

@@ -1,7 +1,7 @@
 -- The printed text of contents. An empty one prints nothing, a constant its value's text, a raw text itself, and
 -- a formula `=` and its tree: numbers in their decimal form, texts in quotes, references in brackets in capitals
 -- with their marks, operators at their operands, and no blank.
-use Rattle.std.specs.Prelude.{ℕ, List, [], ◌∷◌, ◌++◌, codes}
+use Rattle.std.specs.Prelude.{ℕ, List, [], ◌++◌, codes}
 use Rattle.std.specs.List.{join_with_byte}
 use Rattle.calc_num.specs.Numbers.{printed}
 use Rattle.calc_addr.specs.Bracketed.{printed_reference}

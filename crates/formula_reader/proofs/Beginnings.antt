@@ -1,24 +1,23 @@
 -- What the texts of operands, primaries and rows begin with.
-use Rattle.std.proofs.Common.{◌≡◌, ◌≤◌, ◌+◌, ◌-◌, ℕ, Bool, true, false, not, ◌&&◌, ◌||◌, cond, nat_le, List, [], ◌∷◌, ◌++◌, length, drop, Option, Some, None, codes, refl, sym, ap, ◌∙◌, arith}
+use Rattle.std.proofs.Common.{◌≡◌, ℕ, Bool, true, false, ◌&&◌, ◌||◌, nat_le, List, [], ◌∷◌, ◌++◌, length, drop, Some, refl, sym, ap, ◌∙◌, arith}
 use Rattle.std.specs.Prelude.{◌==◌}
 use Rattle.std.specs.Char.{is_ascii_digit}
-use Rattle.std.specs.List.{list_all, prefix_len, take_while}
+use Rattle.std.specs.List.{list_all}
 use Rattle.std.specs.Str.{is_utf8}
-use Rattle.std.proofs.lemmas.Bool.{and_from, and_parts, cond-false, both_ways, cond-true, or_from, or_left, or_right}
+use Rattle.std.proofs.lemmas.Bool.{and_from, and_parts, cond-false, both_ways, or_left, or_right}
 use Rattle.std.proofs.lemmas.Bool.Decides.{nat_tests}
 use Rattle.std.proofs.lemmas.List.Sums.{take_while-cons}
 use Rattle.calc_num.specs.Spelling.{Unsigned, behind_digits, fraction_digits, front_digits, is_negative, behind_sign, reading, unsigned}
-use Rattle.calc_num.specs.declared.parse.Reading.TheVariants as readings
 use Rattle.calc_model.specs.Contents.{is_error_constant}
-use Rattle.calc_model.specs.Grammar.{AreArgs, AreSomeArgs, IsOperand, IsPrimary, IsRow, call, error, is_signed, large_number, lower, minus, more, name, none, number, one, op_text, operand, operated, parenthesis, percent, plus, primary, reference, some, string}
-use Rattle.calc_model.specs.Tokens.{are_blanks, begins_identifier, has_identifier_bytes, is_blank, is_identifier, is_in_identifier, is_name}
+use Rattle.calc_model.specs.Grammar.{AreSomeArgs, IsOperand, IsPrimary, IsRow, call, error, is_signed, large_number, lower, minus, more, name, number, one, op_text, operand, operated, parenthesis, percent, plus, primary, reference, string}
+use Rattle.calc_model.specs.Tokens.{are_blanks, begins_identifier, has_identifier_bytes, is_blank, is_identifier, is_in_identifier}
 use Rattle.calc_model.specs.Values.{fault_text}
 use Rattle.calc_model.specs.declared.fault.Fault.{Fault}
 use Rattle.calc_model.specs.declared.fault.Fault.TheVariants.{NA, DivZero, BadValue, BadRef, BadName, BadNum, Null, Over, Syntax, Circular}
 use Rattle.calc_model.specs.declared.tree.Tree.{Tree}
 use Rattle.formula_reader.specs.Leaves.{number_tree}
 use Rattle.formula_reader.specs.Rows.{is_sign, is_sign_or_blank}
-use Rattle.formula_reader.proofs.Fronts.{Follows, begins, begins-append, begins_other}
+use Rattle.formula_reader.proofs.Fronts.{begins, begins-append, begins_other}
 use Rattle.formula_reader.proofs.NumberFronts.{no_sign_behind, none_or, read_unsigned}
 use Rattle.formula_reader.proofs.Words.{name_is_identifier}
 

@@ -1,5 +1,5 @@
 -- An identifier in capitals is an identifier without small letters.
-use Rattle.std.proofs.Common.{◌≡◌, ◌≤◌, ◌<◌, ◌+◌, ◌-◌, ◌/◌, ◌&&◌, ◌||◌, not, cond, nat_le, nat_lt, ⊎_elim, ℕ, Bool, true, false, List, [], ◌∷◌, ◌++◌, length, map, refl, sym, ap, ◌∙◌, arith}
+use Rattle.std.proofs.Common.{◌≡◌, ◌≤◌, ◌+◌, ◌/◌, ◌&&◌, not, cond, nat_le, nat_lt, ⊎_elim, ℕ, true, List, [], ◌∷◌, ◌++◌, length, map, refl, sym, ap, ◌∙◌, arith}
 use Rattle.std.specs.Char.{to_ascii_uppercase}
 use Rattle.std.specs.List.{list_all}
 use Rattle.std.specs.Str.{IsUtf8, is_utf8}
@@ -50,8 +50,7 @@ letters : (cs : List ℕ) → scalars cs ≡ true → (scalars (map to_ascii_upp
 letters [] h = (refl, refl)
 letters (c ∷ cs) h =
     let are = and_parts (scalar c) (scalars cs) h in
-    let rest = letters cs are.1 in
-    (
+    let rest = letters cs are.1 in (
       and_from (scalar (to_ascii_uppercase c)) (scalars (map to_ascii_uppercase cs)) (scalar_stays c are.0) rest.0,
       (λ i. sym (letter c) i ++ rest.1 i) ∙ sym (map-append (encode c) (encodes cs)),
     )

@@ -1,5 +1,5 @@
 -- An error constant's text is read as that error, whatever stands behind it.
-use Rattle.std.proofs.Common.{◌≡◌, ℕ, Bool, true, List, ◌++◌, Some, refl}
+use Rattle.std.proofs.Common.{◌≡◌, ℕ, true, List, ◌++◌, Some, refl}
 use Rattle.calc_model.specs.Contents.{is_error_constant}
 use Rattle.calc_model.specs.Values.{fault_text}
 use Rattle.calc_model.specs.declared.fault.Fault.{Fault}

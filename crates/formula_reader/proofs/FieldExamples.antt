@@ -1,9 +1,11 @@
 -- Worked examples of fields and their contents, each computed.
-use Rattle.std.proofs.Common.{◌≡◌, ◌*◌, ◌^◌, ℕ, pos, false, true, [], ◌∷◌, codes, None, Some, replicate, refl}
+use Rattle.std.proofs.Common.{◌≡◌, ◌*◌, ◌^◌, ℕ, pos, false, true, [], ◌∷◌, ◌++◌, codes, None, Some, replicate, refl}
+use Rattle.std.specs.List.{flat_map}
+use Rattle.std.specs.Option.{is_some}
 use Rattle.std.specs.Str.{chars, is_utf8}
 use lib.Utf8.{encode}
 use Rattle.calc_addr.specs.References.{Reference}
-use Rattle.calc_addr.specs.declared.reference.Span.TheVariants.{Cells, Rows}
+use Rattle.calc_addr.specs.declared.reference.Span.TheVariants.{Cells, Columns, Rows}
 use Rattle.calc_model.specs.declared.fault.Fault.TheVariants.{NA, Over}
 use Rattle.calc_model.specs.declared.value.Value.TheVariants.{Number, Words, Bad}
 use Rattle.calc_model.specs.declared.content.Content.TheVariants.{Empty, Constant, Formula, Raw}
@@ -13,6 +15,21 @@ use Rattle.calc_model.specs.declared.tree.Tree.TheVariants as t
 use Rattle.formula_reader.specs.Fields.{field_of}
 use Rattle.formula_reader.specs.Reading.{formula_of}
 use Rattle.formula_reader.specs.Rows.{arg_behind, args_at, chain, comparison_at, prefixed_at, primary_at, row_at, tail_at, word_behind}
+
+-- the columns A to C and the rows 1 to 3, each spelled from its end
+abbrev columns : Reference
+columns = record {
+  area = record { sheet = 0; first_col = 1; last_col = 3; first_row = 1; last_row = 1048576 };
+  span = Columns;
+  marks = record { sheet = false; first_col = false; first_row = false; last_col = false; last_row = false };
+}
+
+abbrev rows : Reference
+rows = record {
+  area = record { sheet = 0; first_col = 1; last_col = 1024; first_row = 1; last_row = 3 };
+  span = Rows;
+  marks = record { sheet = false; first_col = false; first_row = false; last_col = false; last_row = false };
+}
 
 abbrev whole : ℕ → Tree
 whole n = t.Number (pos (n * 10 ^ 9))
@@ -163,12 +180,48 @@ unfolding formula_of comparison_at row_at chain tail_at prefixed_at primary_at w
 parentheses_are_closed = refl
 
 a_reference_in_parentheses : formula_of (codes "=( [.$b$2:.A1] + 1.50 )") ≡ Some (t.Paren (t.Binary Add (t.Ref (record {
-      area = record { sheet = 0; first_col = 1; last_col = 2; first_row = 1; last_row = 2 };
-      span = Cells;
-      marks = record { sheet = false; first_col = false; first_row = false; last_col = true; last_row = true };
-    })) (t.Number (pos (15 * 10 ^ 8)))))
+  area = record { sheet = 0; first_col = 1; last_col = 2; first_row = 1; last_row = 2 };
+  span = Cells;
+  marks = record { sheet = false; first_col = false; first_row = false; last_col = true; last_row = true };
+})) (t.Number (pos (15 * 10 ^ 8)))))
 unfolding formula_of comparison_at row_at chain tail_at prefixed_at primary_at word_behind args_at arg_behind is_utf8 chars encode
 a_reference_in_parentheses = refl
+
+whole_columns_and_rows : formula_of (codes "of:==sum([.C:.A];[.3:.1])%") ≡ Some (t.Percent (t.Call (codes "SUM") (t.Ref columns ∷ t.Ref rows ∷ [])))
+unfolding formula_of comparison_at row_at chain tail_at prefixed_at primary_at word_behind args_at arg_behind is_utf8 chars encode
+whole_columns_and_rows = refl
+
+sixty_four_parentheses_may_be_open : is_some (formula_of (codes "=" ++ replicate 64 40 ++ codes "1" ++ replicate 64 41)) ≡ true
+unfolding formula_of comparison_at row_at chain tail_at prefixed_at primary_at word_behind args_at arg_behind is_utf8 chars encode
+sixty_four_parentheses_may_be_open = refl
+
+not_sixty_five : formula_of (codes "=" ++ replicate 65 40 ++ codes "1" ++ replicate 65 41) ≡ None
+unfolding formula_of comparison_at row_at chain tail_at prefixed_at primary_at word_behind args_at arg_behind is_utf8 chars encode
+not_sixty_five = refl
+
+a_call_without_parameters_opens_one : formula_of (codes "=" ++ replicate 64 40 ++ codes "F()" ++ replicate 64 41) ≡ None
+unfolding formula_of comparison_at row_at chain tail_at prefixed_at primary_at word_behind args_at arg_behind is_utf8 chars encode
+a_call_without_parameters_opens_one = refl
+
+thirty_parameters : is_some (formula_of (codes "=F(1" ++ flat_map {X = ℕ} (λ _. codes ";1") (replicate 29 0) ++ codes ")")) ≡ true
+unfolding formula_of comparison_at row_at chain tail_at prefixed_at primary_at word_behind args_at arg_behind is_utf8 chars encode
+thirty_parameters = refl
+
+not_thirty_one : formula_of (codes "=F(1" ++ flat_map {X = ℕ} (λ _. codes ";1") (replicate 30 0) ++ codes ")") ≡ None
+unfolding formula_of comparison_at row_at chain tail_at prefixed_at primary_at word_behind args_at arg_behind is_utf8 chars encode
+not_thirty_one = refl
+
+a_thousand_and_twenty_four_tokens : is_some (formula_of (codes "=" ++ replicate 1023 45 ++ codes "1")) ≡ true
+unfolding formula_of comparison_at row_at chain tail_at prefixed_at primary_at word_behind args_at arg_behind is_utf8 chars encode
+a_thousand_and_twenty_four_tokens = refl
+
+not_one_more : formula_of (codes "=" ++ replicate 1024 45 ++ codes "1") ≡ None
+unfolding formula_of comparison_at row_at chain tail_at prefixed_at primary_at word_behind args_at arg_behind is_utf8 chars encode
+not_one_more = refl
+
+at_most_8192_bytes : formula_of (codes "=1" ++ replicate 8191 32) ≡ None
+unfolding formula_of comparison_at row_at chain tail_at prefixed_at primary_at word_behind args_at arg_behind is_utf8 chars encode
+at_most_8192_bytes = refl
 
 the_longest_text_is_kept : field_of (replicate 65535 65) ≡ Constant (Words (replicate 65535 65))
 the_longest_text_is_kept = refl

@@ -1,5 +1,5 @@
 -- The content of a field by its reading is its content by the cases.
-use Rattle.std.proofs.Common.{◌≡◌, ◌≤◌, ◌<◌, ℕ, Bool, true, false, cond, nat_lt, List, [], ◌∷◌, length, Option, Some, None, Result, Ok, Err, IfOk, refl, sym, ap, ◌∙◌, subst, arith}
+use Rattle.std.proofs.Common.{◌≡◌, ◌≤◌, ◌<◌, ℕ, true, false, cond, nat_lt, List, [], ◌∷◌, length, Option, Some, None, Result, Ok, Err, IfOk, refl, sym, ap, ◌∙◌, subst, arith}
 use Rattle.std.proofs.lemmas.Bool.{cond-false, cond-true, cond_both, le-ltb, lt-ltb, ltb-false, ltb-true}
 use Rattle.calc_num.specs.Spelling.{reading}
 use Rattle.calc_num.specs.declared.parse.Reading.{Reading}
@@ -7,7 +7,7 @@ use Rattle.calc_num.specs.declared.parse.Reading.TheVariants as readings
 use Rattle.calc_model.specs.Field.{IsField, SpellsInLimits, error, formula, nothing, number, raw, too_large, too_long, words}
 use Rattle.calc_model.specs.Fields.{begins_formula, error_of}
 use Rattle.calc_model.specs.declared.content.Content.{Content}
-use Rattle.calc_model.specs.declared.content.Content.TheVariants.{Constant, Formula, Raw}
+use Rattle.calc_model.specs.declared.content.Content.TheVariants.{Constant, Raw}
 use Rattle.calc_model.specs.declared.fault.Fault.{Fault}
 use Rattle.calc_model.specs.declared.fault.Fault.TheVariants.{Over}
 use Rattle.calc_model.specs.declared.tree.Tree.{Tree}

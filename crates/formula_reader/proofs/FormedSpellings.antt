@@ -1,13 +1,12 @@
 -- A tree that a text spells is formed.
-use Rattle.std.proofs.Common.{◌≡◌, ◌≤◌, ◌<◌, ◌+◌, ◌-◌, ◌&&◌, ◌||◌, nat_le, ℕ, ℤ, pos, negsuc, suc, Bool, true, false, List, [], ◌∷◌, ◌++◌, map, Option, Some, None, refl, sym, ap, ◌∙◌, subst, cond, arith}
+use Rattle.std.proofs.Common.{◌≡◌, ◌≤◌, ◌-◌, ◌&&◌, nat_le, ℕ, ℤ, suc, Bool, true, false, List, [], ◌∷◌, ◌++◌, map, Option, Some, None, refl, sym, ap, ◌∙◌, subst, cond, arith}
 use Rattle.std.specs.Prelude.{◌==◌}
 use Rattle.std.specs.List.{list_all}
 use Rattle.std.specs.Str.{is_utf8}
-use Rattle.std.proofs.lemmas.Bool.{and_from, and_parts, le-leb, or_parts}
+use Rattle.std.proofs.lemmas.Bool.{and_from, le-leb, or_parts}
 use Rattle.std.proofs.lemmas.List.Folds.{list_all-append}
-use Rattle.calc_num.specs.Decimals.{is_raw, nearest, with_sign}
-use Rattle.calc_num.specs.Spelling.{Unsigned, behind_sign, denominator, is_negative, nearest_raw, numerator, reading, reading_of, unsigned}
-use Rattle.calc_num.specs.declared.parse.Reading.{Reading}
+use Rattle.calc_num.specs.Decimals.{is_raw}
+use Rattle.calc_num.specs.Spelling.{Unsigned, behind_sign, is_negative, nearest_raw, reading_of, unsigned}
 use Rattle.calc_num.specs.declared.parse.Reading.TheVariants as readings
 use Rattle.calc_model.proofs.TreeFolds as folds
 use Rattle.calc_model.specs.Contents.{is_error_constant}
@@ -17,9 +16,7 @@ use Rattle.calc_model.specs.Limits.{is_in_limits}
 use Rattle.calc_model.specs.Tokens.{has_no_small_letter, is_identifier, is_name}
 use Rattle.calc_model.specs.Field.{SpellsInLimits}
 use Rattle.calc_model.specs.declared.fault.Fault.TheVariants.{Over}
-use Rattle.calc_model.specs.declared.tree.Op.{Op}
 use Rattle.calc_model.specs.declared.tree.Tree.{Tree}
-use Rattle.calc_model.specs.declared.tree.Tree.TheOpen.{Tree-F}
 use Rattle.calc_model.specs.declared.tree.Tree.TheVariants as t
 use Rattle.formula_reader.proofs.Capitals.{capitals_identifier, no_small}
 

@@ -1,5 +1,5 @@
 -- Every text that spells a formula within the limits is read as its tree.
-use Rattle.std.proofs.Common.{◌≡◌, ◌≤◌, ◌<◌, ◌+◌, ◌-◌, ◌&&◌, ℕ, Bool, true, false, nat_le, nat_lt, List, [], ◌∷◌, ◌++◌, length, drop, Option, Some, codes, refl, sym, ap, ◌∙◌, lit<, arith}
+use Rattle.std.proofs.Common.{◌≡◌, ◌≤◌, ◌+◌, ◌-◌, ◌&&◌, ℕ, Bool, true, false, nat_le, List, [], ◌∷◌, ◌++◌, length, Some, refl, sym, ap, ◌∙◌, lit<, arith}
 use Rattle.std.specs.Prelude.{◌==◌}
 use Rattle.std.proofs.lemmas.Bool.{and_parts, cond-false, le-ltb, leb-true}
 use Rattle.std.proofs.lemmas.Bool.Decides.{nat_tests}
@@ -7,16 +7,16 @@ use Rattle.std.proofs.lemmas.List.{append-nil}
 use Rattle.std.proofs.lemmas.Option.{same_Some}
 use Rattle.calc_model.specs.Field.{SpellsInLimits}
 use Rattle.calc_model.specs.Grammar.{IsFront, doubled, long, long_doubled, short}
-use Rattle.calc_model.specs.Limits.{Counts, counts_of, is_in_limits, is_within}
+use Rattle.calc_model.specs.Limits.{is_in_limits}
 use Rattle.calc_model.specs.Tokens.{is_blank}
 use Rattle.calc_model.specs.declared.tree.Tree.{Tree}
-use Rattle.formula_reader.specs.Lefts.{◌>>=◌, is_at, skip}
+use Rattle.formula_reader.specs.Unread.{◌>>=◌}
 use Rattle.formula_reader.specs.Reading.{behind_front, comparison_of, formula_by, formula_of, whole, without}
 use Rattle.formula_reader.specs.Rows.{comparison_at}
 use Rattle.formula_reader.proofs.Beginnings.{behind_blanks, is_row_start, row_begins}
 use Rattle.formula_reader.proofs.Fronts.{at, begins, begins_other, behind-all}
 use Rattle.formula_reader.proofs.SpellingsRead.{comparison_reads, row_read}
-use Rattle.formula_reader.proofs.TreeCounts.{Within, open_of, parameters_of, tokens_of}
+use Rattle.formula_reader.proofs.TreeCounts.{open_of, parameters_of, tokens_of}
 
 abbrev is_equals : ℕ → Bool
 is_equals byte = byte == 61

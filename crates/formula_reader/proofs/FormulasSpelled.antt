@@ -1,5 +1,5 @@
 -- What is read as a formula is spelled so, within the limits.
-use Rattle.std.proofs.Common.{◌≡◌, ◌≤◌, ◌<◌, ◌+◌, ◌&&◌, ℕ, Bool, true, false, cond, nat_eq, nat_le, nat_lt, List, [], ◌∷◌, ◌++◌, length, take, drop, Option, Some, None, codes, refl, sym, ap, ◌∙◌, subst, append_assoc, arith}
+use Rattle.std.proofs.Common.{◌≡◌, ◌≤◌, ◌+◌, ◌&&◌, ℕ, Bool, true, false, cond, nat_eq, nat_le, nat_lt, List, [], ◌∷◌, ◌++◌, length, take, drop, Some, codes, refl, sym, ap, ◌∙◌, subst, arith}
 use Rattle.std.specs.Prelude.{◌==◌}
 use Rattle.std.specs.List.{starts_with, take_while}
 use Rattle.std.proofs.lemmas.Bool.{and_from, eqb-true, le-leb, ltb-false}
@@ -11,12 +11,12 @@ use Rattle.calc_model.specs.Grammar.{IsFront, doubled, long, long_doubled, short
 use Rattle.calc_model.specs.Limits.{is_in_limits}
 use Rattle.calc_model.specs.Tokens.{is_blank}
 use Rattle.calc_model.specs.declared.tree.Tree.{Tree}
-use Rattle.formula_reader.specs.Lefts.{◌>>=◌, Left, is_at, skip}
+use Rattle.formula_reader.specs.Unread.{◌>>=◌, Unread, is_at, skip}
 use Rattle.formula_reader.specs.Reading.{behind_equals, behind_front, comparison_of, formula_by, formula_of, whole, without}
 use Rattle.formula_reader.specs.Rows.{comparison_at}
 use Rattle.formula_reader.proofs.Fronts.{at}
 use Rattle.formula_reader.proofs.NumberFronts.{empty_from, some_or}
-use Rattle.formula_reader.proofs.RowsSpelled.{Spelled, comparison_sound}
+use Rattle.formula_reader.proofs.RowsSpelled.{comparison_sound}
 use Rattle.formula_reader.proofs.Steps.{behind_stops, bind_some, front_and_behind, front_passes}
 use Rattle.formula_reader.proofs.TreeCounts.{open_of, parameters_of, tokens_of}
 
@@ -87,7 +87,7 @@ formula_spelled text tree h =
     let first = bind_some (behind_front text) comparison_of tree both.1 in
     let bytes = first.0 in
     let front = front_says text bytes first.1 in
-    let start : Left = at (skip bytes) 1024 in
+    let start : Unread = at (skip bytes) 1024 in
     let read = bind_some (comparison_at 65 start) whole tree first.2 in
     let x = read.0.0 in
     let s = comparison_sound 65 start read.0 (behind_stops is_blank bytes) read.1 in

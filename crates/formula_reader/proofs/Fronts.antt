@@ -1,12 +1,12 @@
 -- The bytes in front of a text that pass a test, where what stands behind them doesn't begin so.
-use Rattle.std.proofs.Common.{◌≡◌, ◌<◌, ◌≤◌, ◌+◌, ◌-◌, ℕ, suc, Bool, true, false, not, ◌&&◌, ◌||◌, cond, List, [], ◌∷◌, ◌++◌, length, take, drop, Some, refl, sym, ap, ◌∙◌, arith}
+use Rattle.std.proofs.Common.{◌≡◌, ◌+◌, ◌-◌, ℕ, Bool, true, false, not, ◌||◌, List, [], ◌∷◌, ◌++◌, length, Some, refl, sym, ap, ◌∙◌, arith}
 use Rattle.std.specs.Prelude.{◌==◌}
 use Rattle.std.specs.List.{list_all, prefix_len, take_while}
-use Rattle.std.proofs.lemmas.Bool.{and_parts, both_ways, cond-false, cond-true, false_from_ne_true, ne_eqb, not_from_true, or_parts}
+use Rattle.std.proofs.lemmas.Bool.{and_parts, cond-false, cond-true, ne_eqb}
 use Rattle.std.proofs.lemmas.Bool.Decides.{nat_tests}
 use Rattle.std.proofs.lemmas.List.{drop_at, take_at}
 use Rattle.calc_model.specs.Tokens.{are_blanks, is_blank}
-use Rattle.formula_reader.specs.Lefts.{Left, behind, past, skip}
+use Rattle.formula_reader.specs.Unread.{Unread, behind, past, skip}
 
 -- the text begins with a byte that passes the test
 abbrev pub begins : (ℕ → Bool) → List ℕ → Bool
@@ -40,7 +40,7 @@ behind-all test front rest all none = drop_at front rest (prefix_len test (front
 pub take_while-all : (test : ℕ → Bool) (front rest : List ℕ) → list_all test front ≡ true → begins test rest ≡ false → take_while test (front ++ rest) ≡ front
 take_while-all test front rest all none = take_at front rest (prefix_len test (front ++ rest)) (sym (prefix_len-all test front rest all none))
 
-abbrev pub at : List ℕ → ℕ → Left
+abbrev pub at : List ℕ → ℕ → Unread
 at bytes tokens = record { bytes = bytes; tokens = tokens }
 
 -- a token is taken, with the blanks behind it

@@ -1,10 +1,10 @@
 -- What is read as an operand by itself is the token of one.
-use Rattle.std.proofs.Common.{◌≡◌, ◌≤◌, ◌<◌, ◌+◌, ◌-◌, ℕ, zero, suc, Bool, true, false, not, ◌||◌, nat_eq, cond, List, [], ◌∷◌, ◌++◌, length, take, drop, codes, Option, Some, None, refl, sym, ap, ◌∙◌, subst, append_assoc, arith}
+use Rattle.std.proofs.Common.{◌≡◌, ◌+◌, ℕ, zero, suc, Bool, true, false, not, ◌||◌, nat_eq, cond, List, [], ◌∷◌, ◌++◌, length, take, drop, codes, Option, Some, None, refl, sym, ap, ◌∙◌, subst, append_assoc, arith}
 use Rattle.std.specs.Prelude.{◌==◌, option_map}
 use Rattle.std.specs.Char.{is_ascii_digit}
 use Rattle.std.specs.List.{after_first, before_first, find, flat_map, list_all, list_any, starts_with}
-use Rattle.std.specs.Str.{bytes_eq, is_utf8}
-use Rattle.std.proofs.lemmas.Bool.{and_parts, cond-false, cond-true, eqb-true, or_cases, or_from}
+use Rattle.std.specs.Str.{is_utf8}
+use Rattle.std.proofs.lemmas.Bool.{and_parts, cond-false, eqb-true}
 use Rattle.std.proofs.lemmas.Bool.Decides.{nat_tests}
 use Rattle.std.proofs.lemmas.List.{take-append-drop}
 use Rattle.std.proofs.lemmas.Option.{same_Some, some_pair_parts}
@@ -13,18 +13,17 @@ use Rattle.calc_num.specs.Spelling.{reading}
 use Rattle.calc_num.specs.declared.parse.Reading.{Reading}
 use Rattle.calc_num.specs.declared.parse.Reading.TheVariants as readings
 use Rattle.calc_addr.specs.Bracketed.{spelled_reference}
-use Rattle.calc_addr.specs.References.{Reference}
 use Rattle.calc_model.specs.Contents.{is_error_constant}
 use Rattle.calc_model.specs.Fields.{error_constants}
 use Rattle.calc_model.specs.Grammar.{IsOperand, error, is_signed, large_number, number, reference, string}
 use Rattle.calc_model.specs.Tokens.{doubled, quoted}
 use Rattle.calc_model.specs.Values.{fault_text}
 use Rattle.calc_model.specs.declared.fault.Fault.{Fault}
-use Rattle.calc_model.specs.declared.fault.Fault.TheVariants.{NA, DivZero, BadValue, BadRef, BadName, BadNum, Null, Over}
+use Rattle.calc_model.specs.declared.fault.Fault.TheVariants.{Over}
 use Rattle.calc_model.specs.declared.tree.Tree.{Tree}
 use Rattle.calc_model.specs.declared.tree.Tree.TheVariants as t
 use Rattle.formula_reader.specs.Leaves.{error_at, error_tree, is_closing, number_at, number_len, number_tree, operand_at, prepend, reference_at, reference_tree, string_at, unquoted, words_of}
-use Rattle.formula_reader.specs.Lefts.{◌>>=◌, beside}
+use Rattle.formula_reader.specs.Unread.{beside}
 use Rattle.formula_reader.proofs.NumberFronts.{some_or}
 use Rattle.formula_reader.proofs.Quoting.{quoted_parts}
 use Rattle.formula_reader.proofs.ReferenceFronts.{bracketed_parts}

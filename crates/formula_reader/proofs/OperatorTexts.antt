@@ -1,17 +1,15 @@
 -- What an operator's text is read as, and which row it ends.
-use Rattle.std.proofs.Common.{◌≡◌, ◌<◌, ◌+◌, ◌-◌, ℕ, Bool, true, false, not, ◌||◌, cond, List, [], ◌∷◌, ◌++◌, Option, Some, None, refl, sym, ap, ◌∙◌, arith}
+use Rattle.std.proofs.Common.{◌≡◌, ◌<◌, ◌+◌, ℕ, Bool, true, false, ◌||◌, List, [], ◌∷◌, ◌++◌, Option, Some, None, refl, ap, ◌∙◌, arith}
 use Rattle.std.specs.Prelude.{◌==◌}
 use Rattle.std.proofs.lemmas.Bool.{cond-false, cond-true, eq-eqb, ne_eqb, or_parts}
 use Rattle.calc_model.specs.Grammar.{op_row, op_text}
 use Rattle.calc_model.specs.Tokens.{are_blanks}
 use Rattle.calc_model.specs.declared.tree.Op.{Op}
 use Rattle.calc_model.specs.declared.tree.Op.TheVariants.{Pow, Mul, Div, Add, Sub, Cat, Eq, Ne, Lt, Le, Gt, Ge}
-use Rattle.calc_model.specs.declared.tree.Tree.{Tree}
 use Rattle.formula_reader.specs.declared.operators.Operator.{Operator}
 use Rattle.formula_reader.specs.declared.operators.Operator.TheVariants as o
-use Rattle.formula_reader.specs.declared.operators.Tail.{Tail}
 use Rattle.formula_reader.specs.declared.operators.Tail.TheVariants as tails
-use Rattle.formula_reader.specs.Lefts.{◌>>=◌, Left, past}
+use Rattle.formula_reader.specs.Unread.{◌>>=◌, Unread}
 use Rattle.formula_reader.specs.Operators.{of_row, operator_at, row_of}
 use Rattle.formula_reader.specs.Rows.{Read, infix_tail, tail_at, tail_behind, tail_by}
 use Rattle.formula_reader.proofs.Fronts.{Follows, at, begins, past-blanks, past-token}
@@ -70,7 +68,7 @@ of_row-none : (found : Option (Operator × List ℕ)) (row : ℕ) → row < row_
 of_row-none None row h = refl
 of_row-none (Some found) row h = cond-false (row_of found.0 == row) _ _ (ne_eqb (row_of found.0) row (omega arith))
 
-module _ (below : Left → Read) where
+module _ (below : Unread → Read) where
   pub tail_none : (row : ℕ) (rest : List ℕ) (m : ℕ) → row < row_behind rest → tail_at below row (at rest m) ≡ Some None
   unfolding tail_at
   tail_none row rest m h = ap (λ found. tail_by below found m) (of_row-none (operator_at rest) row h)

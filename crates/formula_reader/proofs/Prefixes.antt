@@ -1,5 +1,5 @@
 -- How prefix operators are read.
-use Rattle.std.proofs.Common.{◌≡◌, ◌≤◌, ◌<◌, ◌+◌, ◌-◌, ℕ, suc, Bool, true, false, not, ◌||◌, cond, nat_le, List, [], ◌∷◌, ◌++◌, take, drop, Option, Some, None, refl, sym, ap, ◌∙◌, arith}
+use Rattle.std.proofs.Common.{◌≡◌, ◌+◌, ◌-◌, ℕ, suc, Bool, true, false, cond, nat_le, List, [], ◌∷◌, ◌++◌, drop, Option, Some, None, refl, sym, ap, ◌∙◌, arith}
 use Rattle.std.specs.Prelude.{◌==◌}
 use Rattle.std.specs.List.{count_by, prefix_len, take_while}
 use Rattle.std.proofs.lemmas.Bool.{and_parts, cond-false, cond-true, le-leb, or_left, or_parts, or_right}
@@ -7,9 +7,8 @@ use Rattle.std.proofs.lemmas.Bool.Decides.{nat_tests}
 use Rattle.std.proofs.lemmas.List.Sums.{sum_by-cons, take_while-cons}
 use Rattle.calc_model.specs.Tokens.{are_blanks, is_blank}
 use Rattle.calc_model.specs.declared.tree.Tree.{Tree}
-use Rattle.calc_model.specs.declared.tree.Tree.TheVariants as t
-use Rattle.formula_reader.specs.Lefts.{◌>>=◌, Left, behind}
-use Rattle.formula_reader.specs.Rows.{Inside, Read, is_sign, is_sign_or_blank, prefixed_at, prefixed_by, primary_at, sign_read, signed, signed_by}
+use Rattle.formula_reader.specs.Unread.{◌>>=◌, Unread, behind}
+use Rattle.formula_reader.specs.Rows.{Inside, Read, is_sign, is_sign_or_blank, prefixed_at, prefixed_by, primary_at, sign_read, signed_by}
 use Rattle.formula_reader.proofs.Fronts.{at, begins}
 
 -- the front of a text, and what stands behind it
@@ -39,7 +38,7 @@ behind_none : (bytes : List ℕ) → begins is_sign_or_blank bytes ≡ false →
 behind_none [] h = refl
 behind_none (byte ∷ bytes) h = ap (λ n. drop n (byte ∷ bytes)) (cond-false (is_sign_or_blank byte) _ _ h)
 
-read_unsigned : (o : Option (Tree × Left)) → (o >>= sign_read []) ≡ o
+read_unsigned : (o : Option (Tree × Unread)) → (o >>= sign_read []) ≡ o
 read_unsigned None = refl
 read_unsigned (Some read) = refl
 
@@ -55,14 +54,14 @@ no_sign nested bytes n none =
     ∙ ap (λ m. primary_at nested (at bytes m)) less
 
 -- a tree behind a sign
-abbrev pub signed_read : ℕ → Tree × Left → Read
+abbrev pub signed_read : ℕ → Tree × Unread → Read
 signed_read byte read = Some (signed_by byte read.0, read.1)
 
-read_signed : (byte : ℕ) (front : List ℕ) (o : Option (Tree × Left)) → (o >>= sign_read (byte ∷ front)) ≡ (o >>= sign_read front >>= signed_read byte)
+read_signed : (byte : ℕ) (front : List ℕ) (o : Option (Tree × Unread)) → (o >>= sign_read (byte ∷ front)) ≡ (o >>= sign_read front >>= signed_read byte)
 read_signed byte front None = refl
 read_signed byte front (Some read) = refl
 
-prefixed_more : (nested : Inside) (byte : ℕ) (front : List ℕ) (l : Left) (b : Bool) → prefixed_by nested b (byte ∷ front) l ≡ (prefixed_by nested b front l >>= signed_read byte)
+prefixed_more : (nested : Inside) (byte : ℕ) (front : List ℕ) (l : Unread) (b : Bool) → prefixed_by nested b (byte ∷ front) l ≡ (prefixed_by nested b front l >>= signed_read byte)
 prefixed_more nested byte front l true = read_signed byte front (primary_at nested l)
 prefixed_more nested byte front l false = refl
 
@@ -100,7 +99,7 @@ signed_blank byte x h =
     let parts = or_parts (byte == 43) (byte == 45) h in
     cond-false (byte == 43) _ _ parts.0 ∙ cond-false (byte == 45) _ _ parts.1
 
-read_blank : (byte : ℕ) (o : Option (Tree × Left)) → is_sign byte ≡ false → (o >>= signed_read byte) ≡ o
+read_blank : (byte : ℕ) (o : Option (Tree × Unread)) → is_sign byte ≡ false → (o >>= signed_read byte) ≡ o
 read_blank byte None h = refl
 read_blank byte (Some read) h = ap (λ x. Some (x, read.1)) (signed_blank byte read.0 h)
 

@@ -1,27 +1,26 @@
 -- How operands, parentheses and calls are read where something may follow them.
-use Rattle.std.proofs.Common.{◌≡◌, ◌≤◌, ◌<◌, ◌+◌, ◌-◌, ℕ, Bool, true, false, not, ◌||◌, ◌&&◌, cond, List, [], ◌∷◌, ◌++◌, length, drop, Option, Some, None, codes, refl, sym, ap, ◌∙◌, subst, append_assoc, arith}
+use Rattle.std.proofs.Common.{◌≡◌, ◌+◌, ℕ, true, false, ◌||◌, ◌&&◌, List, [], ◌∷◌, ◌++◌, Some, codes, refl, ap, ◌∙◌, append_assoc, arith}
 use Rattle.std.specs.Prelude.{◌==◌, option_map}
 use Rattle.std.specs.Char.{is_ascii_digit}
-use Rattle.std.specs.List.{flat_map, take_while}
+use Rattle.std.specs.List.{take_while}
 use Rattle.std.proofs.lemmas.Bool.{and_from, cond-false, cond-true}
 use Rattle.std.proofs.lemmas.Bool.Decides.{nat_tests}
 use Rattle.calc_num.specs.Spelling.{reading}
 use Rattle.calc_model.specs.Grammar.{IsOperand, is_signed, error, large_number, name, number, reference, string}
-use Rattle.calc_model.specs.Tokens.{are_blanks, begins_identifier, doubled, is_blank, is_identifier, is_in_identifier, is_name, quoted}
+use Rattle.calc_model.specs.Tokens.{are_blanks, begins_identifier, is_blank, is_identifier, is_in_identifier, is_name, quoted}
 use Rattle.calc_model.specs.Values.{fault_text}
 use Rattle.calc_model.specs.Contents.{is_error_constant}
 use Rattle.calc_model.specs.declared.fault.Fault.{Fault}
 use Rattle.calc_model.specs.declared.fault.Fault.TheVariants.{NA, DivZero, BadValue, BadRef, BadName, BadNum, Null, Over, Syntax, Circular}
 use Rattle.calc_model.specs.declared.tree.Tree.{Tree}
 use Rattle.calc_model.specs.declared.tree.Tree.TheVariants as t
-use Rattle.formula_reader.specs.declared.rows.Start.{Start}
-use Rattle.formula_reader.specs.declared.rows.Start.TheVariants.{Operand, Parenthesis, Word}
-use Rattle.formula_reader.specs.Leaves.{error_at, number_at, number_tree, operand_at, reference_at, string_at}
-use Rattle.formula_reader.specs.Lefts.{◌>>=◌, Left, behind, is_at, past, token_at}
-use Rattle.formula_reader.specs.Rows.{Inside, Read, args_at, call_by, call_node, closed, name_read, operand_left, primary_at, primary_by, start_of, word_at, word_behind, word_by}
-use Rattle.formula_reader.proofs.Beginnings.{begins_more, behind_blanks, identifier_begins, identifier_bytes, is_number_start, number_begins}
+use Rattle.formula_reader.specs.declared.rows.Start.TheVariants.{Operand, Word}
+use Rattle.formula_reader.specs.Leaves.{error_at, number_at, number_tree, operand_at}
+use Rattle.formula_reader.specs.Unread.{◌>>=◌, Unread, is_at, past}
+use Rattle.formula_reader.specs.Rows.{Inside, args_at, call_by, call_node, closed, operand_left, primary_at, primary_by, start_of, word_behind, word_by}
+use Rattle.formula_reader.proofs.Beginnings.{behind_blanks, identifier_begins, identifier_bytes, is_number_start, number_begins}
 use Rattle.formula_reader.proofs.ErrorFronts.{error_in_front}
-use Rattle.formula_reader.proofs.Fronts.{Follows, Stops, Stops-append, at, begins, begins-append, begins_less, behind-all, is_no_follow, is_no_stop, past-blanks, past-token, take_while-all}
+use Rattle.formula_reader.proofs.Fronts.{Follows, Stops, Stops-append, at, begins, begins-append, begins_less, behind-all, is_no_stop, past-blanks, past-token, take_while-all}
 use Rattle.formula_reader.proofs.NumberFronts.{number_in_front}
 use Rattle.formula_reader.proofs.Quoting.{quoted_parts, string_in_front}
 use Rattle.formula_reader.proofs.ReferenceFronts.{bracketed_parts, reference_in_front}
@@ -51,8 +50,7 @@ number_byte byte h = record {
 number_starts : (text : List ℕ) → begins is_number_start text ≡ true → (start_of text ≡ Operand) × (operand_at text ≡ number_at text)
 number_starts [] h = cc
 number_starts (byte ∷ rest) h =
-    let other = number_byte byte h in
-    (
+    let other = number_byte byte h in (
       cond-false (byte == 40) _ _ other.parenthesis ∙ cond-false (begins_identifier byte) _ _ other.word,
       cond-false (byte == 34) _ _ other.quote ∙ cond-false (byte == 91) _ _ other.bracket ∙ cond-false (byte == 35) _ _ other.hash ∙ cond-true (is_ascii_digit byte || (byte == 46)) _ _ h,
     )
@@ -86,7 +84,7 @@ stop_in_identifier byte h = grind (arith, nat_tests)
 
 module _ (nested : Inside) where
   -- a word, and what stands behind it
-  pub word_in_front : (word behind : List ℕ) (l : Left) (n : ℕ) → is_identifier word ≡ true → begins is_in_identifier behind ≡ false → past n behind ≡ Some l → primary_at nested (at (word ++ behind) n) ≡ word_behind nested word l
+  pub word_in_front : (word behind : List ℕ) (l : Unread) (n : ℕ) → is_identifier word ≡ true → begins is_in_identifier behind ≡ false → past n behind ≡ Some l → primary_at nested (at (word ++ behind) n) ≡ word_behind nested word l
   unfolding primary_at
   word_in_front word rest l n h ends e =
       let bytes = word ++ rest in
@@ -100,7 +98,7 @@ module _ (nested : Inside) where
   follow_no_parenthesis [] h = refl
   follow_no_parenthesis (byte ∷ rest) h = grind (arith, nat_tests)
 
-  name_behind : (word : List ℕ) (l : Left) → is_at 40 l.bytes ≡ false → is_name word ≡ true → word_behind nested word l ≡ Some (t.Name word, l)
+  name_behind : (word : List ℕ) (l : Unread) → is_at 40 l.bytes ≡ false → is_name word ≡ true → word_behind nested word l ≡ Some (t.Name word, l)
   unfolding word_behind
   name_behind word l other h = ap (λ b. word_by nested b word l) other ∙ cond-true (is_name word) _ _ h
 
@@ -110,7 +108,7 @@ module _ (nested : Inside) where
       ap (λ bytes. primary_by nested (start_of bytes) (at bytes n)) (append_assoc text blanks rest)
       ∙ ap (λ start. primary_by nested start (at (text ++ (blanks ++ rest)) n)) h.starts
       ∙ ap (λ o. o >>= operand_left n) h.reads
-      ∙ ap (λ o. option_map (λ (l : Left). (x, l)) o) (past-token blanks rest m n tokens all follows)
+      ∙ ap (λ o. option_map (λ (l : Unread). (x, l)) o) (past-token blanks rest m n tokens all follows)
 
   -- an operand by itself is read where something may follow it
   pub operand_read : {text : List ℕ} {x : Tree} (blanks rest : List ℕ) (m n : ℕ) → IsOperand text x → n ≡ 1 + m → are_blanks blanks ≡ true → Follows rest → primary_at nested (at ((text ++ blanks) ++ rest) n) ≡ Some (x, at rest m)
@@ -156,7 +154,7 @@ module _ (nested : Inside) where
       ∙ call_behind word (first ++ back) (1 + inside) (and_from (is_identifier word) nested.opens h opens)
       ∙ ap (λ o. o >>= args_at nested >>= closed (call_node nested word)) (past-blanks first back inside (1 + inside) refl b none)
       ∙ ap (λ o. o >>= closed (call_node nested word)) reads
-      ∙ ap (λ o. option_map (λ (l : Left). (call_node nested word args, l)) o) (past-token last rest m (1 + m) refl c follows)
+      ∙ ap (λ o. option_map (λ (l : Unread). (call_node nested word args, l)) o) (past-token last rest m (1 + m) refl c follows)
 
   -- a parenthesis, by what stands inside
   pub paren_read : (first text last rest : List ℕ) (x : Tree) (m inside n : ℕ) → are_blanks first ≡ true → are_blanks last ≡ true → begins is_blank (text ++ (41 ∷ (last ++ rest))) ≡ false → Follows rest → n ≡ 1 + inside
@@ -167,4 +165,4 @@ module _ (nested : Inside) where
       let back = text ++ (41 ∷ (last ++ rest)) in
       ap (λ o. o >>= nested.read >>= closed t.Paren) (past-blanks first back inside n tokens b none)
       ∙ ap (λ o. o >>= closed t.Paren) reads
-      ∙ ap (λ o. option_map (λ (l : Left). (t.Paren x, l)) o) (past-token last rest m (1 + m) refl c follows)
+      ∙ ap (λ o. option_map (λ (l : Unread). (t.Paren x, l)) o) (past-token last rest m (1 + m) refl c follows)

@@ -1,14 +1,14 @@
 -- A text in quotes is read back.
-use Rattle.std.proofs.Common.{◌≡◌, ℕ, Bool, true, false, List, [], ◌∷◌, ◌++◌, Option, Some, codes, refl, sym, ap, ◌∙◌, append_assoc, arith}
+use Rattle.std.proofs.Common.{◌≡◌, ℕ, Bool, true, false, List, [], ◌∷◌, ◌++◌, Some, codes, refl, ap, ◌∙◌, append_assoc, arith}
 use Rattle.std.specs.Prelude.{◌==◌}
 use Rattle.std.specs.List.{flat_map}
 use Rattle.std.specs.Str.{is_utf8}
-use Rattle.std.proofs.lemmas.Bool.{cond-false, cond-true, eqb-true}
+use Rattle.std.proofs.lemmas.Bool.{cond-false, cond-true}
 use Rattle.std.proofs.lemmas.Bool.Decides.{nat_tests}
 use Rattle.calc_model.specs.Tokens.{doubled, quoted}
 use Rattle.calc_model.specs.declared.tree.Tree.TheVariants as t
 use Rattle.formula_reader.specs.Leaves.{prepend, string_at, unquoted, words_of}
-use Rattle.formula_reader.specs.Lefts.{◌>>=◌}
+use Rattle.formula_reader.specs.Unread.{◌>>=◌}
 use Rattle.formula_reader.proofs.Fronts.{Stops, begins, begins_less, is_no_stop}
 use Rattle.formula_reader.proofs.Unquoting.{unquoted_pass, unquoted_push}
 

@@ -1,24 +1,24 @@
 -- What a row's text is read as: an operand of the row below, and then one operator after the other.
-use Rattle.std.proofs.Common.{◌≡◌, ◌≤◌, ◌<◌, ◌+◌, ◌-◌, ℕ, zero, suc, List, [], ◌∷◌, ◌++◌, length, Option, Some, None, refl, sym, ap, ◌∙◌, subst, add_assoc, arith}
+use Rattle.std.proofs.Common.{◌≡◌, ◌≤◌, ◌<◌, ◌+◌, ◌-◌, ℕ, zero, suc, List, [], ◌∷◌, ◌++◌, length, Some, refl, sym, ap, ◌∙◌, arith}
 use Rattle.std.proofs.lemmas.Option.{same_Some}
 use Rattle.calc_model.specs.declared.tree.Tree.{Tree}
 use Rattle.formula_reader.specs.declared.operators.Tail.{Tail}
-use Rattle.formula_reader.specs.Lefts.{◌>>=◌, Left}
+use Rattle.formula_reader.specs.Unread.{◌>>=◌, Unread}
 use Rattle.formula_reader.specs.Operators.{attach}
 use Rattle.formula_reader.specs.Rows.{Inside, Read, arg_behind, chain, more_args, pushed, row_at, tail_at, tails_behind}
-use Rattle.formula_reader.proofs.Chains.{arg_given, arg_stops, chain_goes, chain_stops, row_above}
+use Rattle.formula_reader.proofs.Chains.{arg_stops, chain_goes, chain_stops}
 use Rattle.formula_reader.proofs.Fronts.{Follows, at}
 use Rattle.formula_reader.proofs.OperatorTexts.{row_behind, tail_none}
 use Rattle.formula_reader.proofs.TreeCounts.{all_tokens, tokens_of}
 
 -- the text in front of the rest is read as the tree, and costs its tokens
-abbrev pub Reads : (Left → Read) → List ℕ → Tree → List ℕ → ℕ → Type 0
+abbrev pub Reads : (Unread → Read) → List ℕ → Tree → List ℕ → ℕ → Type 0
 Reads step text x rest m = step (at (text ++ rest) (tokens_of x + m)) ≡ Some (x, at rest m)
 
 -- the same, where an operator of the row may follow
 pub record Runs (nested : Inside) (row : ℕ) (text : List ℕ) (x : Tree) (rest : List ℕ) (m : ℕ) : Type 0 where
   pub from : Tree
-  pub after : Left
+  pub after : Unread
   pub turns : ℕ
   pub starts : row_at nested row (at (text ++ rest) (tokens_of x + m)) ≡ Some (from, after)
   pub room : turns + m ≤ after.tokens
@@ -85,15 +85,15 @@ abbrev pub args_tokens : List Tree → ℕ
 args_tokens args = all_tokens args + (length args - 1)
 
 -- what parameters are read as: the first of them, and then one after the other
-pub record ArgRuns (nested : Left → Read) (text : List ℕ) (args : List Tree) (rest : List ℕ) (m : ℕ) : Type 0 where
+pub record ArgRuns (nested : Unread → Read) (text : List ℕ) (args : List Tree) (rest : List ℕ) (m : ℕ) : Type 0 where
   pub from : Tree
-  pub after : Left
+  pub after : Unread
   pub turns : ℕ
   pub starts : nested (at (text ++ rest) (args_tokens args + m)) ≡ Some (from, after)
   pub count : turns + 1 ≡ length args
   pub goes : (j : ℕ) → chain (arg_behind nested) pushed (turns + j) (from ∷ []) after ≡ chain (arg_behind nested) pushed j args (at rest m)
 
-module _ (nested : Left → Read) where
+module _ (nested : Unread → Read) where
   pub one_arg : (text : List ℕ) (x : Tree) (rest : List ℕ) (m : ℕ) → Reads nested text x rest m → ArgRuns nested text (x ∷ []) rest m
   one_arg text x rest m h =
       let tokens : args_tokens (x ∷ []) + m ≡ tokens_of x + m = omega arith in
@@ -127,7 +127,7 @@ module _ (nested : Left → Read) where
       }
 
   -- all parameters, up to the parenthesis
-  pub all_args : (text : List ℕ) (args : List Tree) (rest : List ℕ) (m : ℕ) → ArgRuns nested text args (41 ∷ rest) m → length args ≤ 30 → (first : Tree × Left) → nested (at (text ++ (41 ∷ rest)) (args_tokens args + m)) ≡ Some first → more_args nested first ≡ Some (args, at (41 ∷ rest) m)
+  pub all_args : (text : List ℕ) (args : List Tree) (rest : List ℕ) (m : ℕ) → ArgRuns nested text args (41 ∷ rest) m → length args ≤ 30 → (first : Tree × Unread) → nested (at (text ++ (41 ∷ rest)) (args_tokens args + m)) ≡ Some first → more_args nested first ≡ Some (args, at (41 ∷ rest) m)
   all_args text args rest m r short first given =
       let j = 29 - r.turns in
       let count = r.count in

@@ -1,5 +1,5 @@
 -- Prefix operators, taken from the right.
-use Rattle.std.proofs.Common.{◌≡◌, ◌<◌, ◌-◌, ℕ, suc, List, [], ◌∷◌, ◌++◌, get_or, length, take, refl, ap, ◌∙◌, sym, arith}
+use Rattle.std.proofs.Common.{◌≡◌, ◌<◌, ℕ, suc, List, [], ◌∷◌, ◌++◌, get_or, length, take, refl, ap, ◌∙◌, sym}
 use Rattle.std.proofs.Math.Seq.{take-suc}
 use Rattle.calc_model.specs.declared.tree.Tree.{Tree}
 use Rattle.formula_reader.specs.Rows.{signed, signed_by}

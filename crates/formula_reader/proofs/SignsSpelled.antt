@@ -1,5 +1,5 @@
 -- The signs in front of a row, with the blanks between them, spell its prefix operators.
-use Rattle.std.proofs.Common.{◌≡◌, ◌≤◌, ◌<◌, ◌+◌, ◌-◌, ℕ, suc, Bool, true, false, ◌||◌, cond, List, [], ◌∷◌, ◌++◌, refl, sym, ap, ◌∙◌, subst, append_assoc, arith}
+use Rattle.std.proofs.Common.{◌≡◌, ◌+◌, ℕ, Bool, true, false, ◌||◌, cond, List, [], ◌∷◌, ◌++◌, refl, sym, ap, ◌∙◌, subst, arith}
 use Rattle.std.specs.Prelude.{◌==◌}
 use Rattle.std.specs.List.{count_by, list_all}
 use Rattle.std.proofs.lemmas.Bool.{and_from, and_parts, cond-false, cond-true, eqb-true, or_from}
@@ -8,7 +8,7 @@ use Rattle.calc_model.specs.Grammar.{IsRow, minus, plus}
 use Rattle.calc_model.specs.Tokens.{are_blanks, is_blank}
 use Rattle.calc_model.specs.declared.tree.Tree.{Tree}
 use Rattle.calc_model.specs.declared.tree.Tree.TheVariants as t
-use Rattle.formula_reader.specs.Rows.{is_sign, is_sign_or_blank, signed, signed_by}
+use Rattle.formula_reader.specs.Rows.{is_sign, is_sign_or_blank, signed}
 use Rattle.formula_reader.proofs.TreeCounts.{minus_counts, open_of, parameters_of, plus_counts, tokens_of}
 
 -- the front and the text behind it are blanks, and a text of a row

@@ -1,17 +1,17 @@
 -- Every text that stands in a row of the grammar is read as its tree, where the limits hold.
-use Rattle.std.proofs.Common.{◌≡◌, ◌≤◌, ◌<◌, ◌+◌, ◌-◌, ℕ, zero, suc, max, Bool, true, false, ◌||◌, List, [], ◌∷◌, ◌++◌, length, Option, Some, None, refl, sym, ap, ◌∙◌, subst, append_assoc, lit<, arith}
+use Rattle.std.proofs.Common.{◌≡◌, ◌≤◌, ◌<◌, ◌+◌, ℕ, zero, suc, true, false, List, [], ◌∷◌, ◌++◌, length, Some, refl, ap, ◌∙◌, subst, append_assoc, lit<, arith}
 use Rattle.std.specs.Prelude.{◌==◌}
 use Rattle.std.proofs.lemmas.Bool.{lt-ltb}
 use Rattle.std.proofs.lemmas.Bool.Decides.{nat_tests}
 use Rattle.std.proofs.lemmas.List.{length-append}
-use Rattle.calc_model.specs.Grammar.{AreArgs, AreSomeArgs, IsOperand, IsPrimary, IsRow, call, in_capitals, lower, minus, more, none, one, op_row, op_text, operand, operated, parenthesis, percent, plus, primary, some}
+use Rattle.calc_model.specs.Grammar.{AreArgs, AreSomeArgs, IsPrimary, IsRow, call, in_capitals, lower, minus, more, none, one, op_row, op_text, operand, operated, parenthesis, percent, plus, primary, some}
 use Rattle.calc_model.specs.Tokens.{are_blanks, is_blank}
 use Rattle.calc_model.specs.declared.tree.Op.{Op}
 use Rattle.calc_model.specs.declared.tree.Tree.{Tree}
 use Rattle.calc_model.specs.declared.tree.Tree.TheVariants as t
 use Rattle.formula_reader.specs.declared.operators.Tail.TheVariants as tails
-use Rattle.formula_reader.specs.Lefts.{◌>>=◌, Left, is_at}
-use Rattle.formula_reader.specs.Rows.{Inside, Read, arg_behind, args_at, args_by, comparison_at, infix_tail, nested_at, prefixed_at, primary_at, row_at, is_sign, signed_by, tail_at}
+use Rattle.formula_reader.specs.Unread.{◌>>=◌, is_at}
+use Rattle.formula_reader.specs.Rows.{Inside, args_at, comparison_at, infix_tail, nested_at, prefixed_at, primary_at, row_at, is_sign, signed_by, tail_at}
 use Rattle.formula_reader.proofs.Beginnings.{behind_blanks, is_row_start, primary_begins, primary_no_signs, row_begins, row_no_blanks, some_begins}
 use Rattle.formula_reader.proofs.Chains.{arg_given, args_first}
 use Rattle.formula_reader.proofs.Fronts.{Follows, at, begins, begins-append, begins_other, past-blanks}
@@ -19,7 +19,7 @@ use Rattle.formula_reader.proofs.OperatorTexts.{Follows-infix, is_second, row_be
 use Rattle.formula_reader.proofs.Prefixes.{blanks_passed, no_sign, one_sign, signed_read}
 use Rattle.formula_reader.proofs.Primaries.{call_read, operand_read, paren_read}
 use Rattle.formula_reader.proofs.Runs.{ArgRuns, Claim, Reads, Runs, all_args, args_tokens, claim_reads, more_arg, no_more, one_arg, one_more}
-use Rattle.formula_reader.proofs.TreeCounts.{Within, all_tokens, all_tokens_push, binary_counts, call_counts, minus_counts, most_open, most_open_push, most_parameters, most_parameters_push, open_of, operand_tokens, paren_counts, parameters_of, percent_counts, plus_counts, tokens_of}
+use Rattle.formula_reader.proofs.TreeCounts.{Within, all_tokens_push, binary_counts, call_counts, minus_counts, most_open, most_open_push, most_parameters, most_parameters_push, operand_tokens, paren_counts, percent_counts, plus_counts, tokens_of}
 
 -- a sign in front of what is read
 sign_read : (nested : Inside) (byte : ℕ) (blanks text rest : List ℕ) (x node : Tree) (m : ℕ) → is_sign byte ≡ true → are_blanks blanks ≡ true → tokens_of node ≡ tokens_of x + 1 → signed_by byte x ≡ node → Reads (prefixed_at nested) text x rest m → prefixed_at nested (at (byte ∷ ((blanks ++ text) ++ rest)) (tokens_of node + m)) ≡ Some (node, at rest m)
@@ -45,15 +45,15 @@ infix_read nested row op blanks left right rest x y m claim here all starts foll
     let back = op_text op ++ (blanks ++ (right ++ rest)) in
     let n = 1 + (tokens_of y + m) in
     let second : begins is_second (blanks ++ (right ++ rest)) ≡ false =
-        behind_blanks is_second blanks (right ++ rest) blank_no_second all (begins_other is_second is_row_start (right ++ rest) row_no_second (begins-append is_row_start right rest starts)) in
+    behind_blanks is_second blanks (right ++ rest) blank_no_second all (begins_other is_second is_row_start (right ++ rest) row_no_second (begins-append is_row_start right rest starts)) in
     let here_behind : row_behind back ≡ suc row = row_behind-infix op (blanks ++ (right ++ rest)) second ∙ here in
     let counts = (binary_counts op x y).tokens in
     let joined : (left ++ (op_text op ++ (blanks ++ right))) ++ rest ≡ left ++ back =
-        append_assoc left (op_text op ++ (blanks ++ right)) rest
-        ∙ ap (λ t. left ++ t) (append_assoc (op_text op) (blanks ++ right) rest ∙ ap (λ t. op_text op ++ t) (append_assoc blanks right rest)) in
+    append_assoc left (op_text op ++ (blanks ++ right)) rest
+    ∙ ap (λ t. left ++ t) (append_assoc (op_text op) (blanks ++ right) rest ∙ ap (λ t. op_text op ++ t) (append_assoc blanks right rest)) in
     let next : tail_at below (suc row) (at back n) ≡ Some (Some (tails.Infix op y, at rest m)) =
-        tail_infix below op (suc row) blanks (right ++ rest) (tokens_of y + m) n here refl all second (row_no_blanks right rest starts)
-        ∙ ap (λ o. o >>= infix_tail below op) reads in
+    tail_infix below op (suc row) blanks (right ++ rest) (tokens_of y + m) n here refl all second (row_no_blanks right rest starts)
+    ∙ ap (λ o. o >>= infix_tail below op) reads in
     one_more nested row left (left ++ (op_text op ++ (blanks ++ right))) x (t.Binary op x y) (tails.Infix op y) back rest m n
     (claim back n (Follows-infix op (blanks ++ (right ++ rest))) (omega arith)) joined (omega arith) refl (omega arith) next
 
@@ -97,6 +97,7 @@ args_no_blank rest (some {text = text} args) = row_no_blanks text (41 ∷ rest) 
 
 mutual
   unfolding row_at
+
   pub row_read : {k : ℕ} {text : List ℕ} {x : Tree} → IsRow k text x → (levels : ℕ) → Within levels x → Claim (nested_at levels) k text x
   row_read (primary {text = text} {x = x} p) levels within =
       λ rest m follows. no_sign (nested_at levels) (text ++ rest) (tokens_of x + m) (primary_no_signs text rest (primary_begins p)) ∙ primary_read p levels within rest m follows
@@ -118,8 +119,8 @@ mutual
       let own = counts.opens in
       let most = counts.parameters in
       λ rest m follows h.
-          infix_read (nested_at levels) row op blanks left right rest x y m (row_read l levels (record { opens = omega arith; parameters = omega arith })) here all (row_begins r) follows
-          (claim_reads (nested_at levels) row right y (row_read r levels (record { opens = omega arith; parameters = omega arith })) rest m follows h)
+      infix_read (nested_at levels) row op blanks left right rest x y m (row_read l levels (record { opens = omega arith; parameters = omega arith })) here all (row_begins r) follows
+      (claim_reads (nested_at levels) row right y (row_read r levels (record { opens = omega arith; parameters = omega arith })) rest m follows h)
 
   primary_read : {text : List ℕ} {x : Tree} → IsPrimary text x → (levels : ℕ) → Within levels x → (rest : List ℕ) (m : ℕ) → Follows rest → Reads (primary_at (nested_at levels)) text x rest m
   primary_read (operand {text = text} {x = x} blanks o all) levels within rest m follows =
@@ -177,5 +178,5 @@ mutual
       let len : length (args ++ x ∷ []) ≡ length args + 1 = length-append args (x ∷ []) in
       let joined : (front ++ (59 ∷ (blanks ++ text))) ++ rest ≡ front ++ back = append_assoc front (59 ∷ (blanks ++ text)) rest ∙ ap (λ b. front ++ (59 ∷ b)) (append_assoc blanks text rest) in
       let given = arg_given nested (at back n) (at (text ++ rest) (tokens_of x + m)) (x, at rest m) refl (past-blanks blanks (text ++ rest) (tokens_of x + m) n refl all (row_no_blanks text rest (row_begins r)))
-          (comparison_reads levels text x (row_read r levels (record { opens = omega arith; parameters = omega arith })) rest m follows h) in
+      (comparison_reads levels text x (row_read r levels (record { opens = omega arith; parameters = omega arith })) rest m follows h) in
       more_arg nested front (front ++ (59 ∷ (blanks ++ text))) args x back rest m n runs joined (omega arith) len given

@@ -1,13 +1,13 @@
 -- What a reading that doesn't fail says of its steps.
-use Rattle.std.proofs.Common.{◌≡◌, ◌≤◌, ◌<◌, ◌+◌, ◌-◌, ℕ, zero, suc, Bool, true, false, ◌&&◌, cond, List, [], ◌∷◌, ◌++◌, length, take, drop, Option, Some, None, refl, sym, ap, ◌∙◌, subst, arith}
+use Rattle.std.proofs.Common.{◌≡◌, ◌+◌, ◌-◌, ℕ, zero, suc, Bool, true, false, cond, List, [], ◌∷◌, ◌++◌, drop, Option, Some, None, refl, sym, ap, ◌∙◌, subst, arith}
 use Rattle.std.specs.Prelude.{◌==◌, option_map}
 use Rattle.std.specs.List.{list_all, prefix_len, take_while}
 use Rattle.std.proofs.lemmas.Bool.{and_from, cond-false, cond-true, eqb-false, eqb-true}
 use Rattle.std.proofs.lemmas.List.{take-append-drop}
 use Rattle.std.proofs.lemmas.List.Sums.{take_while-cons}
-use Rattle.std.proofs.lemmas.Option.{cond_some, same_Some, some_pair_parts}
+use Rattle.std.proofs.lemmas.Option.{same_Some, some_pair_parts}
 use Rattle.calc_model.specs.Tokens.{are_blanks, is_blank}
-use Rattle.formula_reader.specs.Lefts.{◌>>=◌, Left, behind, is_at, past, skip, token_at}
+use Rattle.formula_reader.specs.Unread.{◌>>=◌, Unread, behind, is_at, past, skip, token_at}
 use Rattle.formula_reader.specs.Rows.{chain, goes_on}
 use Rattle.formula_reader.proofs.Fronts.{at, begins}
 use Rattle.formula_reader.proofs.NumberFronts.{some_or}
@@ -49,18 +49,18 @@ pub front_and_behind : (test : ℕ → Bool) (bytes : List ℕ) → bytes ≡ ta
 front_and_behind test bytes = sym (take-append-drop (prefix_len test bytes) bytes)
 
 -- no blank is in front
-abbrev pub Clean : Left → Type 0
+abbrev pub Clean : Unread → Type 0
 Clean l = begins is_blank l.bytes ≡ false
 
 -- what taking a token says
-pub record Past (n : ℕ) (rest : List ℕ) (l : Left) : Type 0 where
+pub record Past (n : ℕ) (rest : List ℕ) (l : Unread) : Type 0 where
   pub blanks : List ℕ
   pub are_blank : are_blanks blanks ≡ true
   pub joined : rest ≡ blanks ++ l.bytes
   pub tokens : n ≡ 1 + l.tokens
   pub clean : Clean l
 
-past_by : (n : ℕ) (rest : List ℕ) (b : Bool) (l : Left) → (n == 0) ≡ b → cond b None (Some (at (skip rest) (n - 1))) ≡ Some l → Past n rest l
+past_by : (n : ℕ) (rest : List ℕ) (b : Bool) (l : Unread) → (n == 0) ≡ b → cond b None (Some (at (skip rest) (n - 1))) ≡ Some l → Past n rest l
 past_by n rest true l e h = cc
 past_by n rest false l e h =
     let same : at (skip rest) (n - 1) ≡ l = same_Some (at (skip rest) (n - 1)) l h in
@@ -73,34 +73,34 @@ past_by n rest false l e h =
       clean = behind_stops is_blank rest;
     }
 
-pub past_says : (n : ℕ) (rest : List ℕ) (l : Left) → past n rest ≡ Some l → Past n rest l
+pub past_says : (n : ℕ) (rest : List ℕ) (l : Unread) → past n rest ≡ Some l → Past n rest l
 past_says n rest l h = past_by n rest (n == 0) l refl h
 
 -- what a token of one byte says
-pub record Token (byte : ℕ) (l after : Left) : Type 0 where
+pub record Token (byte : ℕ) (l after : Unread) : Type 0 where
   pub rest : List ℕ
   pub joined : l.bytes ≡ byte ∷ rest
   pub passed : Past l.tokens rest after
 
-token_by : (byte : ℕ) (bytes : List ℕ) (n : ℕ) (after : Left) → is_at byte bytes ≡ true → past n (drop 1 bytes) ≡ Some after → Token byte (at bytes n) after
+token_by : (byte : ℕ) (bytes : List ℕ) (n : ℕ) (after : Unread) → is_at byte bytes ≡ true → past n (drop 1 bytes) ≡ Some after → Token byte (at bytes n) after
 token_by byte [] n after e h = cc
 token_by byte (first ∷ rest) n after e h = record { rest = rest; joined = ap (λ b. b ∷ rest) (eqb-true first byte e); passed = past_says n rest after h }
 
-pub token_says : (byte : ℕ) (l after : Left) → token_at byte l ≡ Some after → Token byte l after
+pub token_says : (byte : ℕ) (l after : Unread) → token_at byte l ≡ Some after → Token byte l after
 token_says byte l after h =
     let parts = some_or (is_at byte l.bytes) (past l.tokens (drop 1 l.bytes)) after h in
     token_by byte l.bytes l.tokens after parts.0 parts.1
 
 -- what holds of each part of a chain, while fewer items may follow
-module _ {S I : Type 0} (next : Left → Option (Option (I × Left))) (put : S → I → S) (Q : ℕ → S → Left → Type 0) (step : (n : ℕ) (state : S) (l after : Left) (item : I) → Q (suc n) state l → next l ≡ Some (Some (item, after)) → Q n (put state item) after) where
-  goes_by : (n : ℕ) (state state' : S) (l l' : Left) (o : Option (Option (I × Left))) → next l ≡ o → (goes_on (chain next put n) put state l ≡ goes_on (chain next put n) put state l) → ((later : S) (after : Left) → Q n later after → chain next put n later after ≡ Some (state', l') → (m : ℕ) × Q m state' l') → Q (suc n) state l → (o >>= goes_on (chain next put n) put state l) ≡ Some (state', l') → (m : ℕ) × Q m state' l'
+module _ {S I : Type 0} (next : Unread → Option (Option (I × Unread))) (put : S → I → S) (Q : ℕ → S → Unread → Type 0) (step : (n : ℕ) (state : S) (l after : Unread) (item : I) → Q (suc n) state l → next l ≡ Some (Some (item, after)) → Q n (put state item) after) where
+  goes_by : (n : ℕ) (state state' : S) (l l' : Unread) (o : Option (Option (I × Unread))) → next l ≡ o → (goes_on (chain next put n) put state l ≡ goes_on (chain next put n) put state l) → ((later : S) (after : Unread) → Q n later after → chain next put n later after ≡ Some (state', l') → (m : ℕ) × Q m state' l') → Q (suc n) state l → (o >>= goes_on (chain next put n) put state l) ≡ Some (state', l') → (m : ℕ) × Q m state' l'
   goes_by n state state' l l' None e _ rest q h = cc
   goes_by n state state' l l' (Some None) e _ rest q h =
       let parts = some_pair_parts state state' l l' h in
       (suc n, subst (Q (suc n) state') parts.1 (subst (λ x. Q (suc n) x l) parts.0 q))
   goes_by n state state' l l' (Some (Some item)) e _ rest q h = rest (put state item.0) item.1 (step n state l item.1 item.0 q e) h
 
-  pub chain_says : (n : ℕ) (state state' : S) (l l' : Left) → Q n state l → chain next put n state l ≡ Some (state', l') → (m : ℕ) × Q m state' l'
+  pub chain_says : (n : ℕ) (state state' : S) (l l' : Unread) → Q n state l → chain next put n state l ≡ Some (state', l') → (m : ℕ) × Q m state' l'
   unfolding chain
   chain_says zero state state' l l' q h =
       let parts = some_pair_parts state state' l l' h in

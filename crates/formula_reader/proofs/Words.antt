@@ -1,7 +1,7 @@
 -- Identifiers and names are texts.
-use Rattle.std.proofs.Common.{◌≡◌, ◌&&◌, ◌≤◌, not, nat_le, ℕ, Bool, true, List, length}
+use Rattle.std.proofs.Common.{◌≡◌, ◌&&◌, not, nat_le, ℕ, true, List, length}
 use Rattle.std.specs.Str.{IsUtf8, is_utf8}
-use Rattle.std.proofs.lemmas.Bool.{and_parts, leb-true}
+use Rattle.std.proofs.lemmas.Bool.{and_parts}
 use Rattle.std.proofs.lemmas.Str.{IsUtf8-from_is_utf8}
 use Rattle.calc_addr.specs.Spelling.{spelled_address}
 use Rattle.calc_model.specs.Tokens.{has_identifier_bytes, is_identifier, is_inside, is_name}

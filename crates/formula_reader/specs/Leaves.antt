@@ -14,7 +14,7 @@ use Rattle.calc_model.specs.declared.tree.Tree.{Tree}
 use Rattle.calc_model.specs.declared.tree.Tree.TheVariants as t
 use Rattle.calc_model.specs.Fields.{error_constants}
 use Rattle.calc_model.specs.Values.{fault_text}
-use Rattle.formula_reader.specs.Lefts.{◌>>=◌, beside}
+use Rattle.formula_reader.specs.Unread.{◌>>=◌, beside}
 
 -- what stands behind an exponent, if one stands in front
 abbrev pub behind_exponent : List ℕ → List ℕ

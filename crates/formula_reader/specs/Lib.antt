@@ -1,4 +1,4 @@
-pub mod Lefts
+pub mod Unread
 pub mod Leaves
 pub mod Operators
 pub mod Rows

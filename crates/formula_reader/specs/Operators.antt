@@ -8,7 +8,7 @@ use Rattle.formula_reader.specs.declared.operators.Operator.{Operator}
 use Rattle.formula_reader.specs.declared.operators.Operator.TheVariants as o
 use Rattle.formula_reader.specs.declared.operators.Tail.{Tail}
 use Rattle.formula_reader.specs.declared.operators.Tail.TheVariants as tails
-use Rattle.formula_reader.specs.Lefts.{beside}
+use Rattle.formula_reader.specs.Unread.{beside}
 
 -- the operator that is one byte and no beginning of another
 abbrev pub single_operator : ℕ → Option Operator

@@ -1,8 +1,8 @@
 -- The reading of a formula's text: its tree, where the text spells one within the limits.
-use Rattle.std.specs.Prelude.{ℕ, ◌==◌, nat_eq, nat_lt, Bool, true, false, List, [], ◌∷◌, drop, length, codes, Option, Some, None, if◌then◌else◌}
+use Rattle.std.specs.Prelude.{ℕ, ◌==◌, nat_eq, nat_lt, Bool, true, false, List, drop, length, codes, Option, Some, None, if◌then◌else◌}
 use Rattle.std.specs.List.{starts_with}
 use Rattle.calc_model.specs.declared.tree.Tree.{Tree}
-use Rattle.formula_reader.specs.Lefts.{◌>>=◌, Left, is_at, skip}
+use Rattle.formula_reader.specs.Unread.{◌>>=◌, Unread, is_at, skip}
 use Rattle.formula_reader.specs.Rows.{comparison_at}
 
 -- without the byte in front, if it is this one
@@ -18,7 +18,7 @@ abbrev pub behind_front : List ℕ → Option (List ℕ)
 behind_front text = behind_equals (if starts_with nat_eq text (codes "of:") then drop 3 text else text)
 
 -- the tree, where nothing is left behind it
-abbrev pub whole : Tree × Left → Option Tree
+abbrev pub whole : Tree × Unread → Option Tree
 whole read = if length read.1.bytes == 0 then Some read.0 else None
 
 abbrev pub comparison_of : List ℕ → Option Tree

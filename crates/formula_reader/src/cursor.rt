@@ -1,5 +1,5 @@
 ghost use Rattle.calc_model.specs.Tokens.{is_blank};
-ghost use Rattle.formula_reader.specs.Lefts.{Gives, behind, is_at, left, past, skip, token_at};
+ghost use Rattle.formula_reader.specs.Unread.{Gives, behind, is_at, past, skip, token_at, unread_of};
 ghost use Rattle.std.specs.List.{prefix_len};
 ghost use Rattle.std.specs.Prelude.{length, ◌≡◌, ◌≤◌};
 
@@ -47,7 +47,7 @@ pub(crate) struct Cursor<'a> {
 
 /// What is left behind a token, when these bytes stand behind it. The blanks behind it go with it.
 pub(crate) fn past(tokens: usize, rest: &[u8]) -> Result<Cursor<'_>, Stop>
-    ensures { Gives left result (past tokens rest.now) }
+    ensures { Gives unread_of result (past tokens rest.now) }
 {
     if tokens == 0 {
         return Err(Stop::Unspelled);
@@ -91,7 +91,7 @@ pub(crate) fn is_at(byte: u8, bytes: &[u8]) -> bool
 
 /// What is left behind a token of this one byte.
 pub(crate) fn token(byte: u8, cursor: Cursor<'_>) -> Result<Cursor<'_>, Stop>
-    ensures { Gives left result (token_at byte (left cursor.entry)) }
+    ensures { Gives unread_of result (token_at byte (unread_of cursor.entry)) }
 {
     match cursor.bytes {
         [first, rest @ ..] if *first == byte => past(cursor.tokens, rest),

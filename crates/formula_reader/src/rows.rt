@@ -1,6 +1,6 @@
 ghost use Rattle.calc_model.specs.Grammar.{in_capitals};
 ghost use Rattle.calc_model.specs.Tokens.{is_in_identifier};
-ghost use Rattle.formula_reader.specs.Lefts.{Gives, behind, left, tree_left, trees_left};
+ghost use Rattle.formula_reader.specs.Unread.{Gives, behind, tree_left, trees_left, unread_of};
 ghost use Rattle.formula_reader.specs.Rows.{args_at, comparison_at, is_sign, is_sign_or_blank, name_read, nested_at, prefixed_at, primary_at, row_at, signed, signed_by, start_of, tail_at, tail_left, word_at};
 ghost use Rattle.std.specs.List.{count_by, prefix_len, take_while};
 ghost use Rattle.std.specs.Prelude.{IfOk, length, ◌-◌, ◌<◌, ◌≡◌, ◌≤◌};
@@ -30,7 +30,7 @@ pub(crate) fn comparison(
     levels: u8,
     cursor: Cursor<'_>,
 ) -> Result<(Tree, Cursor<'_>), Stop>
-    ensures { Gives tree_left result (comparison_at levels (left cursor.entry)) }
+    ensures { Gives tree_left result (comparison_at levels (unread_of cursor.entry)) }
 {
     if levels == 0 {
         return Err(Stop::Unspelled);
@@ -47,7 +47,7 @@ fn operands(
     row: u8,
     cursor: Cursor<'_>,
 ) -> Result<(Tree, Cursor<'_>), Stop>
-    ensures { Gives tree_left result (row_at (nested_at levels) row (left cursor.entry)) }
+    ensures { Gives tree_left result (row_at (nested_at levels) row (unread_of cursor.entry)) }
 {
     if row == 0 {
         return prefixed(alloc, levels, cursor);
@@ -75,7 +75,7 @@ fn tail(
     cursor: Cursor<'_>,
 ) -> Result<Option<(Tail, Cursor<'_>)>, Stop>
     requires { 0 < row }
-    ensures { Gives tail_left result (tail_at (row_at (nested_at levels) (row - 1)) row (left cursor.entry)) }
+    ensures { Gives tail_left result (tail_at (row_at (nested_at levels) (row - 1)) row (unread_of cursor.entry)) }
 {
     match operator_of_row(row, cursor.bytes) {
         None => Ok(None),
@@ -97,7 +97,7 @@ fn tail(
 #[cycle(reading)]
 #[tactic(auto, unfolding(crate::specs::Rows::prefixed_at))]
 fn prefixed(alloc: Global, levels: u8, cursor: Cursor<'_>) -> Result<(Tree, Cursor<'_>), Stop>
-    ensures { Gives tree_left result (prefixed_at (nested_at levels) (left cursor.entry)) }
+    ensures { Gives tree_left result (prefixed_at (nested_at levels) (unread_of cursor.entry)) }
 {
     let (front, bytes) = split_signs(cursor.bytes);
     let signs = count_signs(front);
@@ -130,7 +130,7 @@ fn start_of(bytes: &[u8]) -> Start
 #[cycle(reading)]
 #[tactic(auto, unfolding(crate::specs::Rows::primary_at))]
 fn primary(alloc: Global, levels: u8, cursor: Cursor<'_>) -> Result<(Tree, Cursor<'_>), Stop>
-    ensures { Gives tree_left result (primary_at (nested_at levels) (left cursor.entry)) }
+    ensures { Gives tree_left result (primary_at (nested_at levels) (unread_of cursor.entry)) }
 {
     match start_of(cursor.bytes) {
         Start::Parenthesis => {
@@ -150,7 +150,7 @@ fn primary(alloc: Global, levels: u8, cursor: Cursor<'_>) -> Result<(Tree, Curso
 #[cycle(reading)]
 #[tactic(auto, unfolding(crate::specs::Rows::word_behind))]
 fn word(alloc: Global, levels: u8, cursor: Cursor<'_>) -> Result<(Tree, Cursor<'_>), Stop>
-    ensures { Gives tree_left result (word_at (nested_at levels) (left cursor.entry)) }
+    ensures { Gives tree_left result (word_at (nested_at levels) (unread_of cursor.entry)) }
 {
     let (word, rest) = split_word(cursor.bytes);
     let behind = past(cursor.tokens, rest)?;
@@ -174,7 +174,7 @@ fn arguments(
     levels: u8,
     cursor: Cursor<'_>,
 ) -> Result<(Items<Tree>, Cursor<'_>), Stop>
-    ensures { Gives trees_left result (args_at (nested_at levels) (left cursor.entry)) }
+    ensures { Gives trees_left result (args_at (nested_at levels) (unread_of cursor.entry)) }
 {
     let mut args = Items::new(alloc);
     if is_at(b')', cursor.bytes) {
@@ -266,7 +266,7 @@ fn word_len(bytes: &[u8]) -> usize
 
 /// A name, with what is left behind it.
 fn name<'a>(alloc: Global, word: &[u8], rest: Cursor<'a>) -> Result<(Tree, Cursor<'a>), Stop>
-    ensures { Gives tree_left result (name_read word.now (left rest.entry)) }
+    ensures { Gives tree_left result (name_read word.now (unread_of rest.entry)) }
 {
     if !is_name(word) {
         return Err(Stop::Unspelled);

@@ -3,7 +3,7 @@ ghost use Rattle.calc_model.specs.Fields.{error_constants};
 ghost use Rattle.calc_model.specs.Values.{fault_text};
 ghost use Rattle.calc_num.specs.Spelling.{behind_digits, behind_fraction, behind_sign};
 ghost use Rattle.formula_reader.specs.Leaves.{behind_exponent, error_at, is_closing, number_at, number_len, operand_at, reference_at, string_at, unquoted};
-ghost use Rattle.formula_reader.specs.Lefts.{Gives, bytes_behind, tree_behind};
+ghost use Rattle.formula_reader.specs.Unread.{Gives, bytes_behind, tree_behind};
 ghost use Rattle.calc_model.specs.declared.fault.Fault.{Fault};
 ghost use Rattle.std.specs.Char.{is_ascii_digit};
 ghost use Rattle.std.specs.List.{after_first, before_first, find, list_any, position, prefix_len, starts_with};

@@ -1,6 +1,6 @@
 -- How the rows end, and what their loops keep: what is still to be read gives what the whole gives.
-use Rattle.std.proofs.Common.{◌≡◌, ◌+◌, ◌*◌, ◌-◌, [], ◌∷◌}
-use Rattle.formula_reader.specs.Lefts.{left}
+use Rattle.std.proofs.Common.{◌≡◌, ◌+◌, ◌*◌, ◌-◌}
+use Rattle.formula_reader.specs.Unread.{unread_of}
 use Rattle.formula_reader.specs.Operators.{attach}
 use Rattle.formula_reader.specs.Rows.{arg_behind, args_at, chain, comparison_at, nested_at, pushed, row_at, tail_at}
 use Rattle.formula_reader.proofs.rows.+reading.Given as goal
@@ -28,10 +28,10 @@ decreases-arguments l = 1024 * l.levels + 2
 
 abbrev pub invariant-operands-loop : goal.invariant-operands-loop
 invariant-operands-loop l =
-    chain (tail_at (row_at (nested_at l.levels) (l.row - 1)) l.row) attach (l.initial.rest.tokens - l.counter) l.tree (left l.rest)
-    ≡ row_at (nested_at l.levels) l.row (left l.fn.cursor)
+    chain (tail_at (row_at (nested_at l.levels) (l.row - 1)) l.row) attach (l.initial.rest.tokens - l.counter) l.tree (unread_of l.rest)
+    ≡ row_at (nested_at l.levels) l.row (unread_of l.fn.cursor)
 
 abbrev pub invariant-arguments-loop : goal.invariant-arguments-loop
 invariant-arguments-loop l =
-    chain (arg_behind (comparison_at l.levels)) pushed (29 - l.counter) l.args (left l.rest)
-    ≡ args_at (nested_at l.levels) (left l.fn.cursor)
+    chain (arg_behind (comparison_at l.levels)) pushed (29 - l.counter) l.args (unread_of l.rest)
+    ≡ args_at (nested_at l.levels) (unread_of l.fn.cursor)

@@ -1,4 +1,4 @@
-use Rattle.std.proofs.Common.{◌≡◌, ◌+◌, ◌-◌, ◌<◌, suc, get_or, length, take, ap, sym, ◌∙◌, arith}
+use Rattle.std.proofs.Common.{◌≡◌, ◌-◌, ◌<◌, suc, length, take, ap, ◌∙◌, arith}
 use Rattle.formula_reader.specs.Rows.{signed}
 use Rattle.formula_reader.proofs.Signs.{signed_last}
 use Rattle.formula_reader.proofs.rows.signed.Goals as goal

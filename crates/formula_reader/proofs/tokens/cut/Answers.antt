@@ -1,4 +1,4 @@
-use Rattle.std.proofs.Common.{◌+◌, ◌==◌, take, drop, sym, ap, ◌∙◌}
+use Rattle.std.proofs.Common.{◌+◌, take, drop, sym, ap, ◌∙◌}
 use Rattle.std.proofs.lemmas.List.{take_rest}
 use Rattle.calc_addr.proofs.Cuts.{found_at, not_found}
 use Rattle.formula_reader.specs.Leaves.{is_closing}

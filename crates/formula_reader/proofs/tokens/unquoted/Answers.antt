@@ -1,4 +1,4 @@
-use Rattle.std.proofs.Common.{◌≡◌, ◌+◌, ◌<◌, ℕ, Bool, true, false, not, List, [], ◌∷◌, ◌++◌, Some, Vec, Global, get_or, length, drop, ap, refl, sym, subst, ◌∙◌, arith, add-one, drop-cons}
+use Rattle.std.proofs.Common.{◌≡◌, ◌+◌, ◌<◌, ℕ, Bool, true, false, List, [], ◌∷◌, ◌++◌, Vec, Global, get_or, length, drop, ap, sym, ◌∙◌, add-one, drop-cons}
 use Rattle.std.specs.Prelude.{◌==◌}
 use Rattle.std.specs.Bool.{beq}
 use Rattle.formula_reader.specs.Leaves.{unquoted}
@@ -32,9 +32,9 @@ loop-at-preserved c =
     let passed = c.loop-at.quote_passed in
     let at = c.loop-at.at in
     elim c.if-is_quote-quote_passed.branch [
-      then-is_quote-quote_passed+in_ok-push w ↦
-        pushes text c.if-is_quote-quote_passed.text.items bytes passed c.if-is_quote-quote_passed.quote_passed at c.loop-at-test.true w.if-is_quote-quote_passed.true (ap (λ (t : Vec ℕ Global). t.items) w.text-is ∙ w.in_ok-push.ensures.items) w.quote_passed-is ∙ c.loop-at.invariant
+      | then-is_quote-quote_passed+in_ok-push w ↦
+          pushes text c.if-is_quote-quote_passed.text.items bytes passed c.if-is_quote-quote_passed.quote_passed at c.loop-at-test.true w.if-is_quote-quote_passed.true (ap (λ (t : Vec ℕ Global). t.items) w.text-is ∙ w.in_ok-push.ensures.items) w.quote_passed-is ∙ c.loop-at.invariant
       | else-is_quote-quote_passed+else-quote_passed w ↦
-        ap (λ (t : Vec ℕ Global). prepended t.items (unquoted c.if-is_quote-quote_passed.quote_passed (drop (at + 1) bytes))) w.text-is
-        ∙ passes text bytes passed c.if-is_quote-quote_passed.quote_passed at c.loop-at-test.true w.if-is_quote-quote_passed.false w.if-quote_passed.false w.quote_passed-is ∙ c.loop-at.invariant
+          ap (λ (t : Vec ℕ Global). prepended t.items (unquoted c.if-is_quote-quote_passed.quote_passed (drop (at + 1) bytes))) w.text-is
+          ∙ passes text bytes passed c.if-is_quote-quote_passed.quote_passed at c.loop-at-test.true w.if-is_quote-quote_passed.false w.if-quote_passed.false w.quote_passed-is ∙ c.loop-at.invariant
     ]

@@ -10,12 +10,12 @@ use Rattle.formula_reader.specs.declared.cursor.Stop.{Stop}
 use Rattle.formula_reader.specs.declared.cursor.Stop.TheVariants as stops
 
 -- the bytes that aren't read, which begin with no blank, and how many tokens may still be taken
-pub record Left : Type 0 where
+pub record Unread : Type 0 where
   pub bytes : List ℕ
   pub tokens : ℕ
 
-abbrev pub left : Cursor → Left
-left cursor = record { bytes = cursor.bytes.now; tokens = cursor.tokens }
+abbrev pub unread_of : Cursor → Unread
+unread_of cursor = record { bytes = cursor.bytes.now; tokens = cursor.tokens }
 
 -- one step after another, which fails where one of them does
 infixl 10 ◌>>=◌
@@ -36,7 +36,7 @@ abbrev pub skip : List ℕ → List ℕ
 skip bytes = behind is_blank bytes
 
 -- A token is taken where these bytes stand behind it: it costs one, and the blanks behind it go with it.
-abbrev pub past : ℕ → List ℕ → Option Left
+abbrev pub past : ℕ → List ℕ → Option Unread
 past tokens rest = if tokens == 0 then None else Some (record { bytes = skip rest; tokens = tokens - 1 })
 
 -- the first byte is this one
@@ -45,7 +45,7 @@ is_at byte [] = false
 is_at byte (first ∷ rest) = first == byte
 
 -- a token of one byte is taken
-abbrev pub token_at : ℕ → Left → Option Left
+abbrev pub token_at : ℕ → Unread → Option Unread
 token_at byte l = if is_at byte l.bytes then past l.tokens (drop 1 l.bytes) else None
 
 -- What a step of the code returned, seen by view, is what the reading gives, unless memory was refused.
@@ -63,8 +63,8 @@ bytes_behind read = (read.0, read.1.now)
 abbrev pub tree_behind : Tree × Bor (List ℕ) → Tree × List ℕ
 tree_behind read = (read.0, read.1.now)
 
-abbrev pub tree_left : Tree × Cursor → Tree × Left
-tree_left read = (read.0, left read.1)
+abbrev pub tree_left : Tree × Cursor → Tree × Unread
+tree_left read = (read.0, unread_of read.1)
 
-abbrev pub trees_left : List Tree × Cursor → List Tree × Left
-trees_left read = (read.0, left read.1)
+abbrev pub trees_left : List Tree × Cursor → List Tree × Unread
+trees_left read = (read.0, unread_of read.1)
