@@ -19,7 +19,7 @@ use Rattle.formula_reader.specs.Leaves.{number_tree}
 use Rattle.formula_reader.specs.Rows.{is_sign, is_sign_or_blank}
 use Rattle.formula_reader.proofs.Fronts.{begins, begins-append, begins_other}
 use Rattle.formula_reader.proofs.NumberFronts.{no_sign_behind, none_or, read_unsigned}
-use Rattle.formula_reader.proofs.Words.{name_is_identifier}
+use Rattle.formula_reader.proofs.Identifiers.{name_is_identifier}
 
 abbrev pub is_number_start : ℕ → Bool
 is_number_start byte = is_ascii_digit byte || (byte == 46)

@@ -1,7 +1,7 @@
-pub mod Signs
+pub mod SignedTrees
 pub mod Unquoting
 pub mod Chains
-pub mod Words
+pub mod Identifiers
 pub mod Fronts
 pub mod TreeCounts
 pub mod OperatorTexts

@@ -24,7 +24,7 @@ use Rattle.formula_reader.proofs.Fronts.{Follows, Stops, Stops-append, at, begin
 use Rattle.formula_reader.proofs.NumberFronts.{number_in_front}
 use Rattle.formula_reader.proofs.Quoting.{quoted_parts, string_in_front}
 use Rattle.formula_reader.proofs.ReferenceFronts.{bracketed_parts, reference_in_front}
-use Rattle.formula_reader.proofs.Words.{name_is_identifier}
+use Rattle.formula_reader.proofs.Identifiers.{name_is_identifier}
 
 -- the token is read as an operand by itself
 record AsOperand (text rest : List ℕ) (x : Tree) : Type 0 where

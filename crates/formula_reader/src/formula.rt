@@ -15,9 +15,12 @@ const MAX_TOKENS: usize = 1_024;
 /// The most parentheses that are open at one point, and the formula itself.
 const MAX_LEVELS: u8 = 65;
 
-/// The formula that a text spells within the limits of reading, if it spells one: the whole of
-/// OpenFormula's expression syntax, but for inline arrays, unions, intersections and sources. Linear in
-/// the text.
+/// The formula that a text spells, if it spells one: the front `=`, `==`, `of:=` or `of:==`, and a
+/// comparison after OpenFormula's expression syntax. All infix operators associate to the left, prefix
+/// operators bind the tightest, then `%`, `^`, `*` and `/`, `+` and `-`, `&` and the comparisons. A text
+/// of more than 8,192 bytes spells none, nor does one with more than 1,024 tokens, 64 parentheses open
+/// at one point or 30 parameters of a call. Linear in the text; the stack grows with open parentheses
+/// alone.
 #[tactic(auto, unfolding(crate::specs::Reading::formula_of))]
 pub(crate) fn read_formula(alloc: Global, text: &[u8]) -> Result<Option<Tree>, NoMemory>
     ensures { IfOk result (λ tree. tree ≡ formula_of text.now) }

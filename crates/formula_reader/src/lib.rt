@@ -9,7 +9,9 @@ mod formula;
 mod laws;
 mod operators;
 mod rows;
+mod signs;
 mod tokens;
+mod words;
 
 pub use field::read_field;
 pub use laws::{fields_are_spelled, formulas_are_spelled};

@@ -1,20 +1,15 @@
-ghost use Rattle.calc_model.specs.Grammar.{in_capitals};
-ghost use Rattle.calc_model.specs.Tokens.{is_in_identifier};
-ghost use Rattle.formula_reader.specs.Unread.{Gives, behind, tree_left, trees_left, unread_of};
-ghost use Rattle.formula_reader.specs.Rows.{args_at, comparison_at, is_sign, is_sign_or_blank, name_read, nested_at, prefixed_at, primary_at, row_at, signed, signed_by, start_of, tail_at, tail_left, word_at};
-ghost use Rattle.std.specs.List.{count_by, prefix_len, take_while};
-ghost use Rattle.std.specs.Prelude.{IfOk, length, ◌-◌, ◌<◌, ◌≡◌, ◌≤◌};
-ghost use Rattle.std.specs.Str.{IsUtf8};
+ghost use Rattle.formula_reader.specs.Rows.{args_at, comparison_at, nested_at, prefixed_at, primary_at, row_at, start_of, tail_at, tail_left, word_at};
+ghost use Rattle.formula_reader.specs.Unread.{Gives, tree_left, trees_left, unread_of};
+ghost use Rattle.std.specs.Prelude.{◌-◌, ◌<◌, ◌≡◌};
 
-use crate::constant::to_text;
-use crate::cursor::{Cursor, Stop, is_at, is_blank, past, token};
+use crate::cursor::{Cursor, Stop, is_at, past, token};
 use crate::operators::{Operator, Tail, attach, operator_of_row};
+use crate::signs::{count_signs, signed, split_signs};
 use crate::tokens::operand;
-use calc_addr::NoMemory;
-use calc_model::{Text, Tree, begins_identifier, is_identifier, is_in_identifier, is_name};
+use crate::words::{capitals, name, split_word};
+use calc_model::{Tree, begins_identifier, is_identifier};
 use sqlite_items::{Boxed, Items};
 use std::alloc::Global;
-use std::str;
 
 /// The row of comparisons, which bind the least.
 const COMPARISON: u8 = 6;
@@ -191,95 +186,4 @@ fn arguments(
         rest = behind;
     }
     Ok((args, rest))
-}
-
-/// The signs in front with the blanks between them, and what stands behind.
-fn split_signs(bytes: &[u8]) -> (&[u8], &[u8])
-    ensures front { result.0.now ≡ take_while is_sign_or_blank bytes.now }
-    ensures rest { result.1.now ≡ behind is_sign_or_blank bytes.now }
-{
-    bytes.split_at(signs_len(bytes))
-}
-
-fn signs_len(bytes: &[u8]) -> usize
-    ensures within { result ≤ length bytes.now }
-    ensures signs { result ≡ prefix_len is_sign_or_blank bytes.now }
-{
-    bytes
-        .iter()
-        .take_while(|byte| is_sign(**byte) || is_blank(**byte))
-        .count()
-}
-
-fn is_sign(byte: u8) -> bool
-    ensures { result ≡ is_sign byte }
-{
-    byte == b'+' || byte == b'-'
-}
-
-fn count_signs(front: &[u8]) -> usize
-    ensures { result ≡ count_by is_sign front.now }
-{
-    front.iter().filter(|byte| is_sign(**byte)).count()
-}
-
-/// A tree behind its prefix operators, of which the last binds it first.
-fn signed(alloc: Global, front: &[u8], tree: Tree) -> Result<Tree, NoMemory>
-    ensures { IfOk result (λ made. made ≡ signed front.now tree) }
-{
-    let mut made = tree;
-    let mut left = front.len();
-    while left > 0 {
-        left -= 1;
-        made = signed_by(alloc, front[left], made)?;
-    }
-    Ok(made)
-}
-
-fn signed_by(alloc: Global, byte: u8, tree: Tree) -> Result<Tree, NoMemory>
-    ensures { IfOk result (λ made. made ≡ signed_by byte tree) }
-{
-    match byte {
-        b'+' => Ok(Tree::Plus(Boxed::new(alloc, tree)?)),
-        b'-' => Ok(Tree::Minus(Boxed::new(alloc, tree)?)),
-        _ => Ok(tree),
-    }
-}
-
-/// The bytes of a word in front, and what stands behind.
-fn split_word(bytes: &[u8]) -> (&[u8], &[u8])
-    ensures word { result.0.now ≡ take_while is_in_identifier bytes.now }
-    ensures rest { result.1.now ≡ behind is_in_identifier bytes.now }
-{
-    bytes.split_at(word_len(bytes))
-}
-
-fn word_len(bytes: &[u8]) -> usize
-    ensures within { result ≤ length bytes.now }
-    ensures word { result ≡ prefix_len is_in_identifier bytes.now }
-{
-    bytes
-        .iter()
-        .take_while(|byte| is_in_identifier(**byte))
-        .count()
-}
-
-/// A name, with what is left behind it.
-fn name<'a>(alloc: Global, word: &[u8], rest: Cursor<'a>) -> Result<(Tree, Cursor<'a>), Stop>
-    ensures { Gives tree_left result (name_read word.now (unread_of rest.entry)) }
-{
-    if !is_name(word) {
-        return Err(Stop::Unspelled);
-    }
-    Ok((Tree::Name(to_text(alloc, word)?), rest))
-}
-
-/// The word in capitals of ASCII.
-fn capitals(alloc: Global, word: &[u8]) -> Result<Text, NoMemory>
-    requires { IsUtf8 word.now }
-    ensures { IfOk result (λ name. name ≡ in_capitals word.now) }
-{
-    let mut name = String::from_str(alloc, str::from_utf8(word).unwrap())?;
-    name.make_ascii_uppercase();
-    Ok(Text::of(name))
 }

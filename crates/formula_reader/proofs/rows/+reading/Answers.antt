@@ -5,7 +5,7 @@ use Rattle.formula_reader.specs.Unread.{token_at, unread_of}
 use Rattle.formula_reader.specs.Operators.{attach}
 use Rattle.formula_reader.specs.Rows.{arg_behind, args_at, chain, comparison_at, nested_at, pushed, row_at, tail_at, tail_left}
 use Rattle.formula_reader.proofs.Chains.{arg_given, arg_stops, arg_tokenless, arg_unread, args_fail, chain_ends, chain_fails, chain_goes, chain_stops, fails_along}
-use Rattle.formula_reader.proofs.Words.{identifier_IsUtf8}
+use Rattle.formula_reader.proofs.Identifiers.{identifier_IsUtf8}
 use Rattle.formula_reader.proofs.rows.+reading.Goals as goal
 
 pub arguments-returns-then-not-is_at : goal.arguments-returns-then-not-is_at

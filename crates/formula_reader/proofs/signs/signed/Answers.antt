@@ -1,7 +1,7 @@
 use Rattle.std.proofs.Common.{◌≡◌, ◌-◌, ◌<◌, suc, length, take, ap, ◌∙◌, arith}
 use Rattle.formula_reader.specs.Rows.{signed}
-use Rattle.formula_reader.proofs.Signs.{signed_last}
-use Rattle.formula_reader.proofs.rows.signed.Goals as goal
+use Rattle.formula_reader.proofs.SignedTrees.{signed_last}
+use Rattle.formula_reader.proofs.signs.signed.Goals as goal
 
 pub loop-left-preserved : goal.loop-left-preserved
 loop-left-preserved c =

@@ -1,6 +1,6 @@
 use Rattle.std.proofs.Common.{◌≡◌, ◌≤◌, length, take}
 use Rattle.formula_reader.specs.Rows.{signed}
-use Rattle.formula_reader.proofs.rows.signed.Given as goal
+use Rattle.formula_reader.proofs.signs.signed.Given as goal
 
 abbrev pub invariant-loop-left : goal.invariant-loop-left
 invariant-loop-left l = record {
