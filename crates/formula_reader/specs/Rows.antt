@@ -1,5 +1,6 @@
--- The rows of the grammar as a reading from the left: the tree, and what is left behind it. What stands inside
--- parentheses is read by a function that is passed in, and which may read one level less.
+-- The rows of the grammar as a reading from the left, which gives the tree and what is left behind it. Each row
+-- reads the row below it. What stands inside parentheses is read by a function that is passed in, with one level
+-- of parentheses less.
 use Rattle.std.specs.Prelude.{ℕ, suc, zero, ◌==◌, ◌-◌, ◌||◌, ◌&&◌, ◌++◌, nat_le, nat_lt, Bool, true, false, List, [], ◌∷◌, Option, Some, None, if◌then◌else◌, option_map}
 use Rattle.std.specs.List.{count_by, take_while}
 use Rattle.calc_model.specs.Grammar.{in_capitals}
@@ -42,13 +43,14 @@ abbrev pub start_of : List ℕ → Start
 start_of [] = Operand
 start_of (byte ∷ rest) = if byte == 40 then Parenthesis else (if begins_identifier byte then Word else Operand)
 
+-- a prefix operator
 abbrev pub is_sign : ℕ → Bool
 is_sign byte = (byte == 43) || (byte == 45)
 
 abbrev pub is_sign_or_blank : ℕ → Bool
 is_sign_or_blank byte = is_sign byte || is_blank byte
 
--- the prefix operators of a tree
+-- a tree behind its prefix operators, of which the last stands next to it
 abbrev pub signed_by : ℕ → Tree → Tree
 signed_by byte x = if byte == 43 then t.Plus x else (if byte == 45 then t.Minus x else x)
 
@@ -56,19 +58,23 @@ abbrev pub signed : List ℕ → Tree → Tree
 signed [] x = x
 signed (byte ∷ rest) x = signed_by byte (signed rest x)
 
+-- what was read behind signs
 abbrev pub sign_read : List ℕ → Tree × Unread → Read
 sign_read front read = Some (signed front read.0, read.1)
 
+-- an operand, whose token is taken
 abbrev pub operand_left : ℕ → Tree × List ℕ → Read
 operand_left tokens found = option_map (λ (l : Unread). (found.0, l)) (past tokens found.1)
 
+-- the node of what stands inside parentheses, behind the closing one
 abbrev pub closed : {A : Type 0} → (A → Tree) → A × Unread → Read
 closed node inside = option_map (λ (l : Unread). (node inside.0, l)) (token_at 41 inside.1)
 
--- one more parameter
+-- parameters with one more behind them
 abbrev pub pushed : List Tree → Tree → List Tree
 pushed args arg = args ++ arg ∷ []
 
+-- one more parameter that was read
 abbrev pub arg_read : Tree × Unread → Option (Option (Tree × Unread))
 arg_read read = Some (Some read)
 
@@ -82,13 +88,16 @@ module _ (comparison : Unread → Read) where
   next_arg false l = Some None
   next_arg true l = token_at 59 l >>= comparison >>= arg_read
 
+  -- one more parameter, where a semicolon is next
   unfoldable pub arg_behind : Unread → Option (Option (Tree × Unread))
   arg_behind l = next_arg (is_at 59 l.bytes) l
 
+  -- parameters, of which the first was read: at most thirty
   abbrev pub more_args : Tree × Unread → Option (List Tree × Unread)
   more_args first = chain arg_behind pushed 29 (first.0 ∷ []) first.1
 
 module _ (nested : Inside) where
+  -- parameters, by whether the parenthesis closes at once
   abbrev pub args_by : Bool → Unread → Option (List Tree × Unread)
   args_by true l = Some ([], l)
   args_by false l = nested.read l >>= more_args nested.read
@@ -105,6 +114,7 @@ module _ (nested : Inside) where
   call_by false name l = None
   call_by true name l = token_at 40 l >>= args_at >>= closed (call_node name)
 
+  -- a word, by whether a parenthesis stands behind it
   abbrev pub word_by : Bool → List ℕ → Unread → Read
   word_by true name l = call_by (is_identifier name && nested.opens) name l
   word_by false name l = name_read name l
@@ -113,9 +123,11 @@ module _ (nested : Inside) where
   unfoldable pub word_behind : List ℕ → Unread → Read
   word_behind name l = word_by (is_at 40 l.bytes) name l
 
+  -- the longest word in front, and what it is
   abbrev pub word_at : Unread → Read
   word_at l = past l.tokens (behind is_in_identifier l.bytes) >>= word_behind (take_while is_in_identifier l.bytes)
 
+  -- a primary, by what its first byte says
   abbrev pub primary_by : Start → Unread → Read
   primary_by Parenthesis l = token_at 40 l >>= nested.read >>= closed t.Paren
   primary_by Word l = word_at l
@@ -136,6 +148,7 @@ module _ (nested : Inside) where
       let signs = count_by is_sign front in
       prefixed_by (nat_le signs l.tokens) front (record { bytes = behind is_sign_or_blank l.bytes; tokens = l.tokens - signs })
 
+-- what the code reads of a tail, as these definitions have it
 abbrev pub tail_and_left : Tail × Cursor → Tail × Unread
 tail_and_left read = (read.0, unread_of read.1)
 
@@ -143,9 +156,11 @@ abbrev pub tail_left : Option (Tail × Cursor) → Option (Tail × Unread)
 tail_left read = option_map tail_and_left read
 
 module _ (below : Unread → Read) where
+  -- an infix operator and its right operand
   abbrev pub infix_tail : Op → Tree × Unread → Option (Option (Tail × Unread))
   infix_tail op right = Some (Some (tails.Infix op right.0, right.1))
 
+  -- what an operator makes of what stands behind it
   abbrev pub tail_behind : Operator → Unread → Option (Option (Tail × Unread))
   tail_behind o.Percent l = Some (Some (tails.Percent, l))
   tail_behind (o.Infix op) l = below l >>= infix_tail op
@@ -159,6 +174,7 @@ module _ (below : Unread → Read) where
   tail_at row l = tail_by (of_row row (operator_at l.bytes)) l.tokens
 
 module _ (nested : Inside) where
+  -- an operand, and the operators of the row behind it
   abbrev pub tails_behind : (Unread → Read) → ℕ → Tree × Unread → Read
   tails_behind below row first = chain (tail_at below row) attach first.1.tokens first.0 first.1
 

@@ -57,6 +57,7 @@ abbrev pub Gives : {X A : Type 0} → (X → A) → Result X Stop → Option A �
 Gives view (Ok x) read = read ≡ Some (view x)
 Gives view (Err stop) read = Fails stop read
 
+-- values of the code, with what is left behind them
 abbrev pub bytes_behind : List ℕ × Bor (List ℕ) → List ℕ × List ℕ
 bytes_behind read = (read.0, read.1.now)
 
