@@ -8,7 +8,7 @@ use Rattle.std.specs.List.{list_all, slice_split}
 use Rattle.calc_addr.specs.Cells.{Place}
 use Rattle.calc_model.specs.declared.content.Content.{Content}
 use Rattle.calc_model.specs.Books.{with_content}
-use Rattle.calc_model.specs.Fields.{field_of}
+use Rattle.formula_reader.specs.Fields.{field_of}
 use Rattle.calc_script.specs.Lines.{lines_of}
 
 abbrev pub fields_in : List ℕ → List (List ℕ)

@@ -9,7 +9,6 @@ pub mod Places
 pub mod Counting
 pub mod Readiness
 pub mod Building
-mod FieldExamples
 mod ShownExamples
 mod StepExamples
 mod StaleExamples

@@ -6,17 +6,18 @@ use Rattle.std.specs.Fmt.{digits}
 use Rattle.calc_num.specs.Decimals.{checked}
 use Rattle.calc_num.specs.Numbers.{last_digits}
 use Rattle.calc_addr.specs.Cells.{Place, Rectangle, places, single}
-use Rattle.calc_addr.specs.References.{IsReference, here}
+use Rattle.calc_addr.specs.References.{IsReference, Reference, here}
+use Rattle.calc_addr.specs.declared.reference.Span.TheVariants.{One}
 use Rattle.calc_model.specs.declared.fault.Fault.TheVariants.{NA, DivZero, BadValue, Over, Syntax, Circular}
 use Rattle.calc_model.specs.declared.value.Value.{Value}
 use Rattle.calc_model.specs.declared.value.Value.TheVariants.{Number, Words, Bad, Blank}
 use Rattle.calc_model.specs.declared.content.Content.{Content}
 use Rattle.calc_model.specs.declared.content.Content.TheVariants.{Empty, Constant, Formula, Raw}
 use Rattle.calc_model.specs.declared.tree.Op.TheVariants.{Add}
+use Rattle.calc_model.specs.declared.tree.Tree.{Tree}
 use Rattle.calc_model.specs.declared.tree.Tree.TheVariants as t
 use Rattle.calc_model.specs.Books.{Book, IsBook, content_at, area_named, formula_count, with_content}
 use Rattle.calc_model.specs.Eval.{top}
-use Rattle.calc_model.specs.Formulas.{cell_reference, sum_of_cells}
 use Rattle.calc_model.specs.Grounded.{all_cells, is_grounded, is_circular}
 use Rattle.calc_model.specs.Reads.{Names, areas, areas_step, content_areas}
 use Rattle.calc_model.specs.Scalars.{scalar_at, on_numbers}
@@ -25,6 +26,17 @@ use Rattle.calc_model.specs.Values.{text_of}
 use Rattle.calc_model.proofs.TreeFolds as fold
 use Rattle.calc_model.proofs.Building.{eval_sum, scalar_of_one}
 use Rattle.calc_model.proofs.Shown.{shows_its_value, shows_its_circle}
+
+-- an unmarked reference to one cell of the formula's own sheet
+abbrev cell_reference : Place → Reference
+cell_reference p = record {
+  area = single p;
+  span = One;
+  marks = record { sheet = false; first_col = false; first_row = false; last_col = false; last_row = false };
+}
+
+abbrev sum_of_cells : Place → Place → Tree
+sum_of_cells p q = t.Binary Add (t.Ref (cell_reference p)) (t.Ref (cell_reference q))
 
 -- the cell of the first row in that column
 abbrev pub at : ℕ → Place

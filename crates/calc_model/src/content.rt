@@ -1,5 +1,6 @@
-ghost use Rattle.std.specs.Prelude.{◌≡◌, IfOk};
+ghost use Rattle.std.specs.Prelude.{◌≡◌, true, IfOk};
 ghost use Rattle.calc_model.specs.Contents.{IsConstant};
+ghost use Rattle.calc_model.specs.Formed.{is_formed};
 
 use crate::text::Text;
 use crate::tree::Tree;
@@ -37,7 +38,8 @@ impl Model for Constant {
     ghost invariant = { λ c. IsConstant c.value };
 }
 
-/// A formula that a field can hold. Contracts see it as its tree.
+/// A formula that a field can hold: its tree is one that the grammar spells within the limits of
+/// reading. Contracts see it as its tree.
 #[derive(Drop)]
 pub struct Formula {
     tree: Tree,
@@ -51,7 +53,12 @@ impl Model for Formula {
 
     ghost coded = { coded_tree.the_row.coded };
 
+    ghost use Rattle.std.specs.Prelude.{◌≡◌, true};
+    ghost use Rattle.calc_model.specs.Formed.{is_formed};
+
     ghost view = { λ f. f.tree };
+
+    ghost invariant = { λ f. is_formed f.tree ≡ true };
 }
 
 impl Constant {
@@ -81,13 +88,15 @@ impl Constant {
 
 impl Formula {
     pub fn of(tree: Tree) -> Formula
+        requires { is_formed tree ≡ true }
         ensures { result ≡ tree }
     {
         Formula { tree }
     }
 
     pub fn tree(&self) -> &Tree
-        ensures { result.now ≡ self.now }
+        ensures value { result.now ≡ self.now }
+        ensures formed { is_formed self.now ≡ true }
     {
         &self.tree
     }

@@ -8,7 +8,7 @@ use Rattle.calc_addr.specs.Spelling.{spelled_area, spelled_cell}
 use Rattle.calc_addr.specs.declared.read.Spelled.{Spelled}
 use Rattle.calc_addr.specs.declared.read.Spelled.TheVariants.{Is, Outside, Not}
 use Rattle.calc_model.specs.declared.edit.Edit.TheVariants.{Set, Clear}
-use Rattle.calc_model.specs.Fields.{field_of}
+use Rattle.formula_reader.specs.Fields.{field_of}
 use Rattle.calc_script.specs.declared.command.Line.{Line}
 use Rattle.calc_script.specs.declared.command.Line.TheVariants.{Nothing, Do, Refused}
 use Rattle.calc_script.specs.declared.command.Command.{Command}

@@ -1,7 +1,8 @@
 ghost use Rattle.calc_model.specs.Contents.{is_error_constant};
-ghost use Rattle.calc_model.specs.Fields.{constant_of, error_of};
+ghost use Rattle.calc_model.specs.Fields.{error_of};
 ghost use Rattle.calc_model.specs.declared.content.Content.TheVariants as contents;
 ghost use Rattle.calc_num.specs.Spelling.{reading};
+ghost use Rattle.formula_reader.specs.Fields.{constant_of};
 ghost use Rattle.std.specs.Prelude.{IfOk, IfSome, true, ◌≡◌};
 ghost use Rattle.std.specs.Str.{IsUtf8};
 
@@ -12,7 +13,7 @@ use std::alloc::Global;
 use std::str;
 
 /// The faults that have a constant.
-const ERROR_CONSTANTS: [Fault; 8] = [
+pub(crate) const ERROR_CONSTANTS: [Fault; 8] = [
     Fault::NA,
     Fault::DivZero,
     Fault::BadValue,

@@ -1,5 +1,8 @@
-ghost use Rattle.calc_model.specs.Fields.{begins_formula, field_of, formula_or_raw};
-ghost use Rattle.calc_model.specs.Formulas.{formula_of};
+ghost use Rattle.calc_model.specs.Field.{IsField};
+ghost use Rattle.calc_model.specs.Fields.{begins_formula};
+ghost use Rattle.calc_model.specs.declared.content.Content.{Content};
+ghost use Rattle.formula_reader.specs.Fields.{field_of, formula_or_raw};
+ghost use Rattle.formula_reader.specs.Reading.{formula_of};
 ghost use Rattle.std.specs.Prelude.{IfOk, ◌≡◌};
 ghost use Rattle.std.specs.Str.{IsUtf8};
 
@@ -15,6 +18,16 @@ const MAX_LEN: usize = 65_535;
 /// What a cell holds whose field is this text. It fails only where memory is refused, and takes none
 /// but for texts and formulas. Linear in the text.
 pub fn read_field(alloc: Global, field: &[u8]) -> Result<Content, NoMemory>
+    requires { IsUtf8 field.now }
+    ensures value { IfOk result (λ content. content ≡ field_of field.now) }
+    ensures spelled { IfOk result (λ content. IsField field.now content) }
+    ensures only { (content : Content) → IsField field.now content → IfOk result (λ read. read ≡ content) }
+{
+    read_content(alloc, field)
+}
+
+/// What a cell holds, by the first case that holds of its field.
+fn read_content(alloc: Global, field: &[u8]) -> Result<Content, NoMemory>
     requires { IsUtf8 field.now }
     ensures { IfOk result (λ content. content ≡ field_of field.now) }
 {

@@ -1,112 +1,72 @@
-ghost use Rattle.calc_model.specs.Formulas.{cell_of, cell_reference, formula_of, is_closing, sum_of_cells};
-ghost use Rattle.calc_model.specs.declared.tree.Tree.{Tree};
-ghost use Rattle.formula_reader.specs.Sums.{HasNoClosing, IsCut, IsSumText, SpellsSum};
-ghost use Rattle.std.specs.List.{position};
-ghost use Rattle.std.specs.Option.{option_map};
-ghost use Rattle.std.specs.Prelude.{IfOk, IfSome, List, MatchOption, ℕ, ◌↔◌, ◌≡◌};
+ghost use Rattle.formula_reader.specs.Unread.{Gives, is_at};
+ghost use Rattle.formula_reader.specs.Reading.{behind_equals, behind_front, comparison_of, formula_of, without};
+ghost use Rattle.std.specs.Prelude.{IfOk, option_map, ◌≡◌};
 
-use calc_addr::{Area, Cell, Marks, NoMemory, Ref, Span, Spelled, read_cell, write_cell};
-use calc_model::{Op, Tree};
-use sqlite_items::Boxed;
-use std::alloc::Global;
+use crate::cursor::{Cursor, Stop, is_at, skip};
+use crate::rows::comparison;
+use calc_addr::NoMemory;
+use calc_model::Tree;
+use std::alloc::{AllocError, Global};
 
-/// The formula that a text spells, if it spells one. So far that is the sum of two cells, as
-/// `=[.A1]+[.B2]`.
+/// The most bytes of a field that is read as a formula.
+const MAX_LEN: usize = 8_192;
+/// The most tokens of a formula behind its front.
+const MAX_TOKENS: usize = 1_024;
+/// The most parentheses that are open at one point, and the formula itself.
+const MAX_LEVELS: u8 = 65;
+
+/// The formula that a text spells, if it spells one: the front `=`, `==`, `of:=` or `of:==`, and a
+/// comparison after OpenFormula's expression syntax. All infix operators associate to the left, prefix
+/// operators bind the tightest, then `%`, `^`, `*` and `/`, `+` and `-`, `&` and the comparisons. A text
+/// of more than 8,192 bytes spells none, nor does one with more than 1,024 tokens, 64 parentheses open
+/// at one point or 30 parameters of a call. Linear in the text; the stack grows with open parentheses
+/// alone.
+#[tactic(auto, unfolding(crate::specs::Reading::formula_of))]
 pub(crate) fn read_formula(alloc: Global, text: &[u8]) -> Result<Option<Tree>, NoMemory>
     ensures { IfOk result (λ tree. tree ≡ formula_of text.now) }
 {
-    match read_cells(text) {
-        Some((left, right)) => Ok(Some(sum_of_cells(alloc, left, right)?)),
+    if text.len() > MAX_LEN {
+        return Ok(None);
+    }
+    match behind_front(text) {
+        Some(bytes) => match read_comparison(alloc, bytes) {
+            Ok(tree) => Ok(Some(tree)),
+            Err(Stop::Unspelled) => Ok(None),
+            Err(Stop::NoMemory) => Err(AllocError),
+        },
         None => Ok(None),
     }
 }
 
-/// The formulas are exactly the sums of two cells of the first sheet, each with its printed address,
-/// and a sum has one text.
-pub fn sums_are_spelled_once()
-    ensures spelled { (text : List ℕ) → (tree : Tree) → (formula_of text ≡ Some tree) ↔ SpellsSum text tree }
-    ensures once { (first second : List ℕ) → (tree : Tree)
-        → formula_of first ≡ Some tree → formula_of second ≡ Some tree → first ≡ second }
-{}
-
-/// The two cells of a text that spells their sum.
-fn read_cells(text: &[u8]) -> Option<(Cell, Cell)>
-    ensures sum { option_map (λ cells. sum_of_cells cells.0 cells.1) result ≡ formula_of text.now }
-    ensures first_sheet { IfSome result (λ cells. (cells.0.sheet ≡ 0) × (cells.1.sheet ≡ 0)) }
+/// A comparison that is all of these bytes.
+fn read_comparison(alloc: Global, bytes: &[u8]) -> Result<Tree, Stop>
+    ensures { Gives (λ tree. tree) result (comparison_of bytes.now) }
 {
-    let (left, right) = split_sum(text)?;
-    Some((own_cell(left)?, own_cell(right)?))
-}
-
-/// The two words of a text that is `=[.`, a word, `]+[.`, a word and `]`.
-fn split_sum(text: &[u8]) -> Option<(&[u8], &[u8])>
-    ensures { MatchOption result ((left right : List ℕ) → ¬ (IsSumText text.now left right))
-        (λ words. IsSumText text.now words.0.now words.1.now) }
-{
-    let (left, rest) = cut(text.strip_prefix(b"=[.")?)?;
-    let (right, rest) = cut(rest.strip_prefix(b"+[.")?)?;
-    rest.is_empty().then_some((left, right))
-}
-
-/// What stands before and after the first `]`.
-fn cut(text: &[u8]) -> Option<(&[u8], &[u8])>
-    ensures { MatchOption result (HasNoClosing text.now) (λ parts. IsCut text.now parts.0.now parts.1.now) }
-{
-    let at = closing_at(text)?;
-    Some((&text[..at], &text[at + 1..]))
-}
-
-fn closing_at(text: &[u8]) -> Option<usize>
-    ensures { result ≡ position is_closing text.now }
-{
-    text.iter().position(|byte| *byte == b']')
-}
-
-/// The cell of the first sheet whose address is printed as this word.
-fn own_cell(word: &[u8]) -> Option<Cell>
-    ensures value { result ≡ cell_of word.now }
-    ensures first_sheet { IfSome result (λ cell. cell.sheet ≡ 0) }
-{
-    match read_cell(word) {
-        Spelled::Is(cell) => {
-            (cell.sheet == 0 && word == write_cell(cell).bytes()).then_some(cell)
-        }
-        Spelled::Outside | Spelled::Not => None,
+    let cursor = Cursor {
+        bytes: skip(bytes),
+        tokens: MAX_TOKENS,
+    };
+    let (tree, rest) = comparison(alloc, MAX_LEVELS, cursor)?;
+    if rest.bytes.is_empty() {
+        Ok(tree)
+    } else {
+        Err(Stop::Unspelled)
     }
 }
 
-fn sum_of_cells(alloc: Global, left: Cell, right: Cell) -> Result<Tree, NoMemory>
-    requires left_sheet { left.sheet ≡ 0 }
-    requires right_sheet { right.sheet ≡ 0 }
-    ensures { IfOk result (λ tree. tree ≡ sum_of_cells left right) }
+/// What stands behind a formula's front: `=`, `==`, `of:=` or `of:==`.
+fn behind_front(text: &[u8]) -> Option<&[u8]>
+    ensures { option_map (λ rest. rest.now) result ≡ behind_front text.now }
 {
-    Ok(Tree::Binary {
-        op: Op::Add,
-        left: Boxed::new(alloc, Tree::Ref(cell_reference(left)))?,
-        right: Boxed::new(alloc, Tree::Ref(cell_reference(right)))?,
-    })
+    behind_equals(text.strip_prefix(b"of:").unwrap_or(text))
 }
 
-/// An unmarked reference to one cell of the formula's own sheet.
-fn cell_reference(cell: Cell) -> Ref
-    requires { cell.sheet ≡ 0 }
-    ensures { result ≡ cell_reference cell }
+fn behind_equals(text: &[u8]) -> Option<&[u8]>
+    ensures { option_map (λ rest. rest.now) result ≡ behind_equals text.now }
 {
-    Ref {
-        area: Area {
-            sheet: cell.sheet,
-            first_col: cell.col,
-            last_col: cell.col,
-            first_row: cell.row,
-            last_row: cell.row,
-        },
-        span: Span::One,
-        marks: Marks {
-            sheet: false,
-            first_col: false,
-            first_row: false,
-            last_col: false,
-            last_row: false,
-        },
+    match text {
+        [b'=', b'=', rest @ ..] => Some(rest),
+        [b'=', rest @ ..] => Some(rest),
+        _ => None,
     }
 }

@@ -1,9 +1,17 @@
-//! The reading of fields: what a cell holds whose field is a given text.
+//! The reading of fields: what a cell holds whose field is a given text, after OpenFormula's expression
+//! syntax.
 #![tactic(auto)]
 
 mod constant;
+mod cursor;
 mod field;
 mod formula;
+mod laws;
+mod operators;
+mod rows;
+mod signs;
+mod tokens;
+mod words;
 
 pub use field::read_field;
-pub use formula::sums_are_spelled_once;
+pub use laws::{fields_are_spelled, formulas_are_spelled};

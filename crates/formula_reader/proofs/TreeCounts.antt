@@ -1,0 +1,148 @@
+-- The counts of a tree, by its top node.
+use Rattle.std.proofs.Common.{◌≡◌, ◌≤◌, ◌+◌, ◌-◌, ℕ, List, [], ◌∷◌, ◌++◌, length, max, map, sum, refl, ap, ◌∙◌, arith}
+use Rattle.std.proofs.lemmas.List.Sums.{fold_push, sum_by_push}
+use Rattle.calc_model.proofs.TreeFolds as folds
+use Rattle.calc_model.specs.Grammar.{IsOperand, error, large_number, name, number, reference, string}
+use Rattle.calc_model.specs.Limits.{Counts, counts_of, counts_step, most}
+use Rattle.calc_model.specs.declared.tree.Op.{Op}
+use Rattle.calc_model.specs.declared.tree.Tree.{Tree}
+use Rattle.calc_model.specs.declared.tree.Tree.TheVariants as t
+
+abbrev pub tokens_of : Tree → ℕ
+tokens_of x = (counts_of x).tokens
+
+abbrev pub open_of : Tree → ℕ
+open_of x = (counts_of x).open_at_once
+
+abbrev pub parameters_of : Tree → ℕ
+parameters_of x = (counts_of x).parameters
+
+-- so many parentheses may be open, and so many parameters there be
+pub record Within (d : ℕ) (x : Tree) : Type 0 where
+  pub opens : open_of x ≤ d
+  pub parameters : parameters_of x ≤ 30
+
+abbrev tokens : Counts → ℕ
+tokens c = c.tokens
+
+abbrev opens : Counts → ℕ
+opens c = c.open_at_once
+
+abbrev parameters : Counts → ℕ
+parameters c = c.parameters
+
+pub operand_tokens : {text : List ℕ} {x : Tree} → IsOperand text x → tokens_of x ≡ 1
+operand_tokens (number text n s r) = ap tokens (folds.at-Number Counts counts_step n)
+operand_tokens (large_number text s r) = ap tokens (folds.at-Bad Counts counts_step _)
+operand_tokens (string text u) = ap tokens (folds.at-Words Counts counts_step text)
+operand_tokens (reference text r e) = ap tokens (folds.at-Ref Counts counts_step r)
+operand_tokens (error fault e) = ap tokens (folds.at-Bad Counts counts_step fault)
+operand_tokens (name text e) = ap tokens (folds.at-Name Counts counts_step text)
+
+pub operand_opens : {text : List ℕ} {x : Tree} → IsOperand text x → open_of x ≡ 0
+operand_opens (number text n s r) = ap opens (folds.at-Number Counts counts_step n)
+operand_opens (large_number text s r) = ap opens (folds.at-Bad Counts counts_step _)
+operand_opens (string text u) = ap opens (folds.at-Words Counts counts_step text)
+operand_opens (reference text r e) = ap opens (folds.at-Ref Counts counts_step r)
+operand_opens (error fault e) = ap opens (folds.at-Bad Counts counts_step fault)
+operand_opens (name text e) = ap opens (folds.at-Name Counts counts_step text)
+
+pub operand_parameters : {text : List ℕ} {x : Tree} → IsOperand text x → parameters_of x ≡ 0
+operand_parameters (number text n s r) = ap parameters (folds.at-Number Counts counts_step n)
+operand_parameters (large_number text s r) = ap parameters (folds.at-Bad Counts counts_step _)
+operand_parameters (string text u) = ap parameters (folds.at-Words Counts counts_step text)
+operand_parameters (reference text r e) = ap parameters (folds.at-Ref Counts counts_step r)
+operand_parameters (error fault e) = ap parameters (folds.at-Bad Counts counts_step fault)
+operand_parameters (name text e) = ap parameters (folds.at-Name Counts counts_step text)
+
+-- the counts of a node that has one child: a token more
+pub record OneMore (node child : Tree) : Type 0 where
+  pub tokens : tokens_of node ≡ tokens_of child + 1
+  pub opens : open_of node ≡ open_of child
+  pub parameters : parameters_of node ≡ parameters_of child
+
+pub plus_counts : (x : Tree) → OneMore (t.Plus x) x
+plus_counts x =
+    let e = folds.at-Plus Counts counts_step x in
+    record { tokens = ap tokens e; opens = ap opens e; parameters = ap parameters e }
+
+pub minus_counts : (x : Tree) → OneMore (t.Minus x) x
+minus_counts x =
+    let e = folds.at-Minus Counts counts_step x in
+    record { tokens = ap tokens e; opens = ap opens e; parameters = ap parameters e }
+
+pub percent_counts : (x : Tree) → OneMore (t.Percent x) x
+percent_counts x =
+    let e = folds.at-Percent Counts counts_step x in
+    record { tokens = ap tokens e; opens = ap opens e; parameters = ap parameters e }
+
+pub record ParenCounts (x : Tree) : Type 0 where
+  pub tokens : tokens_of (t.Paren x) ≡ tokens_of x + 2
+  pub opens : open_of (t.Paren x) ≡ open_of x + 1
+  pub parameters : parameters_of (t.Paren x) ≡ parameters_of x
+
+pub paren_counts : (x : Tree) → ParenCounts x
+paren_counts x =
+    let e = folds.at-Paren Counts counts_step x in
+    record { tokens = ap tokens e; opens = ap opens e; parameters = ap parameters e }
+
+pub record BinaryCounts (op : Op) (x y : Tree) : Type 0 where
+  pub tokens : tokens_of (t.Binary op x y) ≡ tokens_of x + 1 + tokens_of y
+  pub opens : open_of (t.Binary op x y) ≡ max (open_of x) (open_of y)
+  pub parameters : parameters_of (t.Binary op x y) ≡ max (parameters_of x) (parameters_of y)
+
+pub binary_counts : (op : Op) (x y : Tree) → BinaryCounts op x y
+binary_counts op x y =
+    let e = folds.at-Binary Counts counts_step op x y in
+    record { tokens = ap tokens e; opens = ap opens e; parameters = ap parameters e }
+
+-- what parameters count together, semicolons apart
+abbrev pub all_tokens : List Tree → ℕ
+all_tokens args = sum (map tokens (map counts_of args))
+
+abbrev pub most_open : List Tree → ℕ
+most_open args = most (map opens (map counts_of args))
+
+abbrev pub most_parameters : List Tree → ℕ
+most_parameters args = most (map parameters (map counts_of args))
+
+pub record CallCounts (word : List ℕ) (args : List Tree) : Type 0 where
+  pub tokens : tokens_of (t.Call word args) ≡ all_tokens args + (length args - 1) + 2 + 1
+  pub opens : open_of (t.Call word args) ≡ most_open args + 1
+  pub parameters : parameters_of (t.Call word args) ≡ max (length args) (most_parameters args)
+
+map_len : (args : List Tree) → length (map counts_of args) ≡ length args
+map_len [] = refl
+map_len (x ∷ args) = omega (arith, map_len args)
+
+pub call_counts : (word : List ℕ) (args : List Tree) → CallCounts word args
+call_counts word args =
+    let e = folds.at-Call Counts counts_step word args in
+    let same = map_len args in
+    record {
+      tokens = ap tokens e ∙ ap (λ n. all_tokens args + (n - 1) + 2 + 1) same;
+      opens = ap opens e;
+      parameters = ap parameters e ∙ ap (λ n. max n (most_parameters args)) same;
+    }
+
+map_push : {A B : Type 0} (f : A → B) (xs : List A) (x : A) → map f (xs ++ x ∷ []) ≡ map f xs ++ f x ∷ []
+map_push f [] x = refl
+map_push f (y ∷ xs) x = ap (λ ys. f y ∷ ys) (map_push f xs x)
+
+pub all_tokens_push : (args : List Tree) (x : Tree) → all_tokens (args ++ x ∷ []) ≡ all_tokens args + tokens_of x
+all_tokens_push args x =
+    ap (λ cs. sum (map tokens cs)) (map_push counts_of args x)
+    ∙ ap sum (map_push tokens (map counts_of args) (counts_of x))
+    ∙ sum_by_push (λ n. n) (map tokens (map counts_of args)) (tokens_of x)
+
+pub most_open_push : (args : List Tree) (x : Tree) → most_open (args ++ x ∷ []) ≡ max (most_open args) (open_of x)
+most_open_push args x =
+    ap (λ cs. most (map opens cs)) (map_push counts_of args x)
+    ∙ ap most (map_push opens (map counts_of args) (counts_of x))
+    ∙ fold_push max 0 (map opens (map counts_of args)) (open_of x)
+
+pub most_parameters_push : (args : List Tree) (x : Tree) → most_parameters (args ++ x ∷ []) ≡ max (most_parameters args) (parameters_of x)
+most_parameters_push args x =
+    ap (λ cs. most (map parameters cs)) (map_push counts_of args x)
+    ∙ ap most (map_push parameters (map counts_of args) (counts_of x))
+    ∙ fold_push max 0 (map parameters (map counts_of args)) (parameters_of x)

@@ -1,0 +1,12 @@
+use Rattle.std.proofs.Common.{◌≡◌, Some, sym, ◌∙◌}
+use Rattle.formula_reader.specs.Reading.{formula_of}
+use Rattle.formula_reader.proofs.FormedSpellings.{spelled_formed}
+use Rattle.formula_reader.proofs.FormulasSpelled.{formula_spelled}
+use Rattle.formula_reader.proofs.field.read_begun.Goals as goal
+
+pub of-requires : goal.of-requires
+of-requires c =
+    let text = c.args.text.now in
+    let tree = c.in-Some.tree in
+    let read : formula_of text ≡ Some tree = sym c.in_ok-tree.ensures ∙ c.in-Some.is in
+    spelled_formed text tree (formula_spelled text tree read)

@@ -1,0 +1,33 @@
+-- The reading of a formula's text: its tree, where the text spells one within the limits.
+use Rattle.std.specs.Prelude.{ℕ, ◌==◌, nat_eq, nat_lt, Bool, true, false, List, drop, length, codes, Option, Some, None, if◌then◌else◌}
+use Rattle.std.specs.List.{starts_with}
+use Rattle.calc_model.specs.declared.tree.Tree.{Tree}
+use Rattle.formula_reader.specs.Unread.{◌>>=◌, Unread, is_at, skip}
+use Rattle.formula_reader.specs.Rows.{comparison_at}
+
+-- without the byte in front, if it is this one
+abbrev pub without : ℕ → List ℕ → List ℕ
+without byte text = if is_at byte text then drop 1 text else text
+
+-- what stands behind `=` and a second one at once after it
+abbrev pub behind_equals : List ℕ → Option (List ℕ)
+behind_equals text = if is_at 61 text then Some (without 61 (drop 1 text)) else None
+
+-- what stands behind the front of a formula
+abbrev pub behind_front : List ℕ → Option (List ℕ)
+behind_front text = behind_equals (if starts_with nat_eq text (codes "of:") then drop 3 text else text)
+
+-- the tree, where nothing is left behind it
+abbrev pub whole : Tree × Unread → Option Tree
+whole read = if length read.1.bytes == 0 then Some read.0 else None
+
+abbrev pub comparison_of : List ℕ → Option Tree
+comparison_of bytes = comparison_at 65 (record { bytes = skip bytes; tokens = 1024 }) >>= whole
+
+abbrev pub formula_by : Bool → List ℕ → Option Tree
+formula_by true text = None
+formula_by false text = behind_front text >>= comparison_of
+
+-- the formula that the text spells within the limits of reading, if it spells one
+unfoldable pub formula_of : List ℕ → Option Tree
+formula_of text = formula_by (nat_lt 8192 (length text)) text

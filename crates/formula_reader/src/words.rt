@@ -1,0 +1,56 @@
+ghost use Rattle.calc_model.specs.Grammar.{in_capitals};
+ghost use Rattle.calc_model.specs.Tokens.{is_in_identifier};
+ghost use Rattle.formula_reader.specs.Rows.{name_read};
+ghost use Rattle.formula_reader.specs.Unread.{Gives, behind, tree_left, unread_of};
+ghost use Rattle.std.specs.List.{prefix_len, take_while};
+ghost use Rattle.std.specs.Prelude.{IfOk, length, ◌≡◌, ◌≤◌};
+ghost use Rattle.std.specs.Str.{IsUtf8};
+
+use crate::constant::to_text;
+use crate::cursor::{Cursor, Stop};
+use calc_addr::NoMemory;
+use calc_model::{Text, Tree, is_in_identifier, is_name};
+use std::alloc::Global;
+use std::str;
+
+/// The bytes of a word in front, and what stands behind.
+pub(crate) fn split_word(bytes: &[u8]) -> (&[u8], &[u8])
+    ensures word { result.0.now ≡ take_while is_in_identifier bytes.now }
+    ensures rest { result.1.now ≡ behind is_in_identifier bytes.now }
+{
+    bytes.split_at(word_len(bytes))
+}
+
+fn word_len(bytes: &[u8]) -> usize
+    ensures within { result ≤ length bytes.now }
+    ensures word { result ≡ prefix_len is_in_identifier bytes.now }
+{
+    bytes
+        .iter()
+        .take_while(|byte| is_in_identifier(**byte))
+        .count()
+}
+
+/// A name, with what is left behind it.
+pub(crate) fn name<'a>(
+    alloc: Global,
+    word: &[u8],
+    rest: Cursor<'a>,
+) -> Result<(Tree, Cursor<'a>), Stop>
+    ensures { Gives tree_left result (name_read word.now (unread_of rest.entry)) }
+{
+    if !is_name(word) {
+        return Err(Stop::Unspelled);
+    }
+    Ok((Tree::Name(to_text(alloc, word)?), rest))
+}
+
+/// The word in capitals of ASCII.
+pub(crate) fn capitals(alloc: Global, word: &[u8]) -> Result<Text, NoMemory>
+    requires { IsUtf8 word.now }
+    ensures { IfOk result (λ name. name ≡ in_capitals word.now) }
+{
+    let mut name = String::from_str(alloc, str::from_utf8(word).unwrap())?;
+    name.make_ascii_uppercase();
+    Ok(Text::of(name))
+}
