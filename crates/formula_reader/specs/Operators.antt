@@ -5,7 +5,7 @@ use Rattle.calc_model.specs.declared.tree.Op.TheVariants.{Pow, Mul, Div, Add, Su
 use Rattle.calc_model.specs.declared.tree.Tree.{Tree}
 use Rattle.calc_model.specs.declared.tree.Tree.TheVariants as t
 use Rattle.formula_reader.specs.declared.operators.Operator.{Operator}
-use Rattle.formula_reader.specs.declared.operators.Operator.TheVariants as o
+use Rattle.formula_reader.specs.declared.operators.Operator.TheVariants as operators
 use Rattle.formula_reader.specs.declared.operators.Tail.{Tail}
 use Rattle.formula_reader.specs.declared.operators.Tail.TheVariants as tails
 use Rattle.formula_reader.specs.Unread.{beside}
@@ -13,25 +13,25 @@ use Rattle.formula_reader.specs.Unread.{beside}
 -- the operator that is one byte and no beginning of another
 abbrev pub single_operator : ℕ → Option Operator
 single_operator byte =
-    if byte == 37 then Some o.Percent
-    else (if byte == 94 then Some (o.Infix Pow)
-    else (if byte == 42 then Some (o.Infix Mul)
-    else (if byte == 47 then Some (o.Infix Div)
-    else (if byte == 43 then Some (o.Infix Add)
-    else (if byte == 45 then Some (o.Infix Sub)
-    else (if byte == 38 then Some (o.Infix Cat)
-    else (if byte == 61 then Some (o.Infix Eq) else None)))))))
+    if byte == 37 then Some operators.Percent
+    else (if byte == 94 then Some (operators.Infix Pow)
+    else (if byte == 42 then Some (operators.Infix Mul)
+    else (if byte == 47 then Some (operators.Infix Div)
+    else (if byte == 43 then Some (operators.Infix Add)
+    else (if byte == 45 then Some (operators.Infix Sub)
+    else (if byte == 38 then Some (operators.Infix Cat)
+    else (if byte == 61 then Some (operators.Infix Eq) else None)))))))
 
 -- the operator that begins with `<`, by what stands behind that
 abbrev pub less_at : List ℕ → Operator × List ℕ
-less_at [] = (o.Infix Lt, [])
+less_at [] = (operators.Infix Lt, [])
 less_at (byte ∷ rest) =
-    if byte == 62 then (o.Infix Ne, rest) else (if byte == 61 then (o.Infix Le, rest) else (o.Infix Lt, byte ∷ rest))
+    if byte == 62 then (operators.Infix Ne, rest) else (if byte == 61 then (operators.Infix Le, rest) else (operators.Infix Lt, byte ∷ rest))
 
 -- the operator that begins with `>`
 abbrev pub greater_at : List ℕ → Operator × List ℕ
-greater_at [] = (o.Infix Gt, [])
-greater_at (byte ∷ rest) = if byte == 61 then (o.Infix Ge, rest) else (o.Infix Gt, byte ∷ rest)
+greater_at [] = (operators.Infix Gt, [])
+greater_at (byte ∷ rest) = if byte == 61 then (operators.Infix Ge, rest) else (operators.Infix Gt, byte ∷ rest)
 
 abbrev pub operator_at : List ℕ → Option (Operator × List ℕ)
 operator_at [] = None
@@ -41,8 +41,8 @@ operator_at (byte ∷ rest) =
 
 -- the row of an operator
 abbrev pub row_of : Operator → ℕ
-row_of o.Percent = 1
-row_of (o.Infix op) = op_row op
+row_of operators.Percent = 1
+row_of (operators.Infix op) = op_row op
 
 -- only an operator of the row
 abbrev pub of_row : ℕ → Option (Operator × List ℕ) → Option (Operator × List ℕ)

@@ -10,7 +10,7 @@ use Rattle.calc_model.specs.declared.tree.Tree.{Tree}
 use Rattle.calc_model.specs.declared.tree.Tree.TheVariants as t
 use Rattle.formula_reader.specs.declared.cursor.Cursor.{Cursor}
 use Rattle.formula_reader.specs.declared.operators.Operator.{Operator}
-use Rattle.formula_reader.specs.declared.operators.Operator.TheVariants as o
+use Rattle.formula_reader.specs.declared.operators.Operator.TheVariants as operators
 use Rattle.formula_reader.specs.declared.operators.Tail.{Tail}
 use Rattle.formula_reader.specs.declared.operators.Tail.TheVariants as tails
 use Rattle.formula_reader.specs.declared.rows.Start.{Start}
@@ -30,13 +30,13 @@ pub record Inside : Type 0 where
 
 -- the rest of a chain: with one more item, or to its end
 abbrev pub goes_on : {S I : Type 0} → (S → Unread → Option (S × Unread)) → (S → I → S) → S → Unread → Option (I × Unread) → Option (S × Unread)
-goes_on rest put state l None = Some (state, l)
-goes_on rest put state l (Some item) = rest (put state item.0) item.1
+goes_on rest put state unread None = Some (state, unread)
+goes_on rest put state unread (Some item) = rest (put state item.0) item.1
 
 -- Items one behind another, at most so many: each is put to what was read before it.
 unfoldable pub chain : {S I : Type 0} → (Unread → Option (Option (I × Unread))) → (S → I → S) → ℕ → S → Unread → Option (S × Unread)
-chain next put zero state l = Some (state, l)
-chain next put (suc n) state l = next l >>= goes_on (chain next put n) put state l
+chain next put zero state unread = Some (state, unread)
+chain next put (suc n) state unread = next unread >>= goes_on (chain next put n) put state unread
 
 -- what the first byte says of a primary
 abbrev pub start_of : List ℕ → Start
@@ -64,11 +64,11 @@ sign_read front read = Some (signed front read.0, read.1)
 
 -- an operand, whose token is taken
 abbrev pub operand_left : ℕ → Tree × List ℕ → Read
-operand_left tokens found = option_map (λ (l : Unread). (found.0, l)) (past tokens found.1)
+operand_left tokens found = option_map (λ (unread : Unread). (found.0, unread)) (past tokens found.1)
 
 -- the node of what stands inside parentheses, behind the closing one
 abbrev pub closed : {A : Type 0} → (A → Tree) → A × Unread → Read
-closed node inside = option_map (λ (l : Unread). (node inside.0, l)) (token_at 41 inside.1)
+closed node inside = option_map (λ (unread : Unread). (node inside.0, unread)) (token_at 41 inside.1)
 
 -- parameters with one more behind them
 abbrev pub pushed : List Tree → Tree → List Tree
@@ -80,17 +80,17 @@ arg_read read = Some (Some read)
 
 -- the word of a name, which has no parenthesis behind it
 abbrev pub name_read : List ℕ → Unread → Read
-name_read name l = if is_name name then Some (t.Name name, l) else None
+name_read name unread = if is_name name then Some (t.Name name, unread) else None
 
 module _ (comparison : Unread → Read) where
   -- a parameter behind its semicolon
   abbrev pub next_arg : Bool → Unread → Option (Option (Tree × Unread))
-  next_arg false l = Some None
-  next_arg true l = token_at 59 l >>= comparison >>= arg_read
+  next_arg false unread = Some None
+  next_arg true unread = token_at 59 unread >>= comparison >>= arg_read
 
   -- one more parameter, where a semicolon is next
   unfoldable pub arg_behind : Unread → Option (Option (Tree × Unread))
-  arg_behind l = next_arg (is_at 59 l.bytes) l
+  arg_behind unread = next_arg (is_at 59 unread.bytes) unread
 
   -- parameters, of which the first was read: at most thirty
   abbrev pub more_args : Tree × Unread → Option (List Tree × Unread)
@@ -99,54 +99,54 @@ module _ (comparison : Unread → Read) where
 module _ (nested : Inside) where
   -- parameters, by whether the parenthesis closes at once
   abbrev pub args_by : Bool → Unread → Option (List Tree × Unread)
-  args_by true l = Some ([], l)
-  args_by false l = nested.read l >>= more_args nested.read
+  args_by true unread = Some ([], unread)
+  args_by false unread = nested.read unread >>= more_args nested.read
 
   -- the parameters behind a call's parenthesis
   unfoldable pub args_at : Unread → Option (List Tree × Unread)
-  args_at l = args_by (is_at 41 l.bytes) l
+  args_at unread = args_by (is_at 41 unread.bytes) unread
 
   abbrev pub call_node : List ℕ → List Tree → Tree
   call_node name args = t.Call (in_capitals name) args
 
   -- a call from its parenthesis on
   abbrev pub call_by : Bool → List ℕ → Unread → Read
-  call_by false name l = None
-  call_by true name l = token_at 40 l >>= args_at >>= closed (call_node name)
+  call_by false name unread = None
+  call_by true name unread = token_at 40 unread >>= args_at >>= closed (call_node name)
 
   -- a word, by whether a parenthesis stands behind it
   abbrev pub word_by : Bool → List ℕ → Unread → Read
-  word_by true name l = call_by (is_identifier name && nested.opens) name l
-  word_by false name l = name_read name l
+  word_by true name unread = call_by (is_identifier name && nested.opens) name unread
+  word_by false name unread = name_read name unread
 
   -- a call or a name, by what stands behind the word
   unfoldable pub word_behind : List ℕ → Unread → Read
-  word_behind name l = word_by (is_at 40 l.bytes) name l
+  word_behind name unread = word_by (is_at 40 unread.bytes) name unread
 
   -- the longest word in front, and what it is
   abbrev pub word_at : Unread → Read
-  word_at l = past l.tokens (behind is_in_identifier l.bytes) >>= word_behind (take_while is_in_identifier l.bytes)
+  word_at unread = past unread.tokens (behind is_in_identifier unread.bytes) >>= word_behind (take_while is_in_identifier unread.bytes)
 
   -- a primary, by what its first byte says
   abbrev pub primary_by : Start → Unread → Read
-  primary_by Parenthesis l = token_at 40 l >>= nested.read >>= closed t.Paren
-  primary_by Word l = word_at l
-  primary_by Operand l = operand_at l.bytes >>= operand_left l.tokens
+  primary_by Parenthesis unread = token_at 40 unread >>= nested.read >>= closed t.Paren
+  primary_by Word unread = word_at unread
+  primary_by Operand unread = operand_at unread.bytes >>= operand_left unread.tokens
 
   unfoldable pub primary_at : Unread → Read
-  primary_at l = primary_by (start_of l.bytes) l
+  primary_at unread = primary_by (start_of unread.bytes) unread
 
   -- prefix operators and the primary behind them
   abbrev pub prefixed_by : Bool → List ℕ → Unread → Read
-  prefixed_by false front l = None
-  prefixed_by true front l = primary_at l >>= sign_read front
+  prefixed_by false front unread = None
+  prefixed_by true front unread = primary_at unread >>= sign_read front
 
   -- the signs in front with the blanks between them are read first, each a token
   unfoldable pub prefixed_at : Unread → Read
-  prefixed_at l =
-      let front = take_while is_sign_or_blank l.bytes in
+  prefixed_at unread =
+      let front = take_while is_sign_or_blank unread.bytes in
       let signs = count_by is_sign front in
-      prefixed_by (nat_le signs l.tokens) front (record { bytes = behind is_sign_or_blank l.bytes; tokens = l.tokens - signs })
+      prefixed_by (nat_le signs unread.tokens) front (record { bytes = behind is_sign_or_blank unread.bytes; tokens = unread.tokens - signs })
 
 -- what the code reads of a tail, as these definitions have it
 abbrev pub tail_and_left : Tail × Cursor → Tail × Unread
@@ -162,8 +162,8 @@ module _ (below : Unread → Read) where
 
   -- what an operator makes of what stands behind it
   abbrev pub tail_behind : Operator → Unread → Option (Option (Tail × Unread))
-  tail_behind o.Percent l = Some (Some (tails.Percent, l))
-  tail_behind (o.Infix op) l = below l >>= infix_tail op
+  tail_behind operators.Percent unread = Some (Some (tails.Percent, unread))
+  tail_behind (operators.Infix op) unread = below unread >>= infix_tail op
 
   abbrev pub tail_by : Option (Operator × List ℕ) → ℕ → Option (Option (Tail × Unread))
   tail_by None tokens = Some None
@@ -171,7 +171,7 @@ module _ (below : Unread → Read) where
 
   -- the operator of the row behind an operand, with the right operand of an infix one
   unfoldable pub tail_at : ℕ → Unread → Option (Option (Tail × Unread))
-  tail_at row l = tail_by (of_row row (operator_at l.bytes)) l.tokens
+  tail_at row unread = tail_by (of_row row (operator_at unread.bytes)) unread.tokens
 
 module _ (nested : Inside) where
   -- an operand, and the operators of the row behind it
@@ -180,13 +180,13 @@ module _ (nested : Inside) where
 
   -- a row: an operand of the row below, and its operators to the left
   unfoldable pub row_at : ℕ → Unread → Read
-  row_at zero l = prefixed_at nested l
-  row_at (suc row) l = row_at row l >>= tails_behind (row_at row) (suc row)
+  row_at zero unread = prefixed_at nested unread
+  row_at (suc row) unread = row_at row unread >>= tails_behind (row_at row) (suc row)
 
 -- a comparison with so many levels of parentheses, its own included
 unfoldable pub comparison_at : ℕ → Unread → Read
-comparison_at zero l = None
-comparison_at (suc levels) l = row_at (record { opens = nat_lt 0 levels; read = comparison_at levels }) 6 l
+comparison_at zero unread = None
+comparison_at (suc levels) unread = row_at (record { opens = nat_lt 0 levels; read = comparison_at levels }) 6 unread
 
 -- what may stand inside parentheses, where so many levels are left
 abbrev pub nested_at : ℕ → Inside

@@ -46,7 +46,7 @@ is_at byte (first ∷ rest) = first == byte
 
 -- a token of one byte is taken
 abbrev pub token_at : ℕ → Unread → Option Unread
-token_at byte l = if is_at byte l.bytes then past l.tokens (drop 1 l.bytes) else None
+token_at byte unread = if is_at byte unread.bytes then past unread.tokens (drop 1 unread.bytes) else None
 
 -- What a step of the code returned, seen by view, is what the reading gives, unless memory was refused.
 abbrev pub Fails : {A : Type 0} → Stop → Option A → Type 0

@@ -7,7 +7,7 @@ use calc_addr::NoMemory;
 use std::alloc::AllocFailed;
 
 /// Why reading stops.
-#[derive(Clone, Copy, Debug, PartialEq, Eq)]
+#[derive(Clone, Copy)]
 pub(crate) enum Stop {
     NoMemory,
     /// No formula is spelled within the limits.
