@@ -10,6 +10,8 @@ mod edits;
 #[cfg(test)]
 mod fields;
 #[cfg(test)]
+mod formulas;
+#[cfg(test)]
 mod refusals;
 #[cfg(test)]
 mod runs;

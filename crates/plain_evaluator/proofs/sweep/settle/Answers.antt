@@ -10,7 +10,7 @@ returns-then-not-are_known-clause-settled c = λ _.
     let cells = c.args.cells.now.entries in
     let results = results_of c.args.results.now.entries in
     let unready : is_tree_ready (book_of cells) results c.args.cell c.in-Formula.formula ≡ false =
-    ready_by_areas cells results c.args.cell c.in-Formula.formula c.tree.result.now c.clear.new.self.items c.deref.result.now c.tree.ensures c.clear.ensures.items (c.deref.ensures.value ∙ c.in_ok-push_areas.ensures)
+    ready_by_areas cells results c.args.cell c.in-Formula.formula c.tree.result.now c.clear.new.self.items c.deref.result.now c.tree.ensures.value c.clear.ensures.items (c.deref.ensures.value ∙ c.in_ok-push_areas.ensures)
     ∙ sym c.if-not-are_known.ensures in
     settled_unready (book_of cells) results c.args.cell c.in-Formula.formula (c.requires.at ∙ c.in-Formula.is) unready
 
@@ -19,10 +19,10 @@ returns-clause-sound c =
     let cells = c.args.cells.now.entries in
     let results = results_of c.args.results.now.entries in
     let ready : is_tree_ready (book_of cells) results c.args.cell c.in-Formula.formula ≡ true =
-    ready_by_areas cells results c.args.cell c.in-Formula.formula c.tree.result.now c.clear.new.self.items c.deref.result.now c.tree.ensures c.clear.ensures.items (c.deref.ensures.value ∙ c.in_ok-push_areas.ensures)
+    ready_by_areas cells results c.args.cell c.in-Formula.formula c.tree.result.now c.clear.new.self.items c.deref.result.now c.tree.ensures.value c.clear.ensures.items (c.deref.ensures.value ∙ c.in_ok-push_areas.ensures)
     ∙ sym c.if-not-are_known.ensures in
     sound_more (book_of cells) results c.args.cell c.requires.sound (results_of c.keep.new.results.entries) c.in-Formula.formula c.top-value.result
-    (c.requires.at ∙ c.in-Formula.is) ready (rw (c.top-value.ensures, c.eval.ensures, c.tree-2.ensures)) c.in_ok-keep.ensures.ok
+    (c.requires.at ∙ c.in-Formula.is) ready (rw (c.top-value.ensures, c.eval.ensures, c.tree-2.ensures.value)) c.in_ok-keep.ensures.ok
 
 pub returns-clause-added : goal.returns-clause-added
 returns-clause-added c = λ _.
