@@ -120,8 +120,8 @@ impl PlainWorkbook {
         Ok(())
     }
 
-    /// How many formulas are stale. It takes as many sweeps over the cells as the longest way of reading
-    /// against their order, and one more.
+    /// How many formulas are stale. It takes at most two more sweeps over the cells than the longest way
+    /// of reading has steps against their order.
     pub fn stale_count(&self, alloc: Global) -> Result<usize, NoMemory>
         ensures { IfOk result (λ count. count ≡ count_in (book_of self.now.cells) (stale_of self.now)) }
     {
