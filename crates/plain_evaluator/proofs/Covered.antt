@@ -1,11 +1,11 @@
 -- The cells of an area are known where those entries of a map are that the area covers.
-use Rattle.std.proofs.Common.{◌≡◌, ℕ, Bool, true, false, not, ◌||◌, ◌&&◌, List, [], ◌∷◌, refl, sym, ap, subst, ◌∙◌, Some, is_some}
+use Rattle.std.proofs.Common.{◌≡◌, Bool, true, false, not, ◌||◌, ◌&&◌, List, [], ◌∷◌, refl, sym}
 use Rattle.std.specs.List.{list_all}
 use Rattle.calc_addr.specs.Cells.{Place, Rectangle, covers, places}
 use Rattle.calc_model.specs.declared.content.Content.{Content}
-use Rattle.calc_model.specs.Books.{content_at, is_formula}
+use Rattle.calc_model.specs.Books.{content_at}
 use Rattle.calc_model.specs.Results.{Results, is_known}
-use Rattle.calc_model.proofs.Areas.{places_all, all_places, both_true}
+use Rattle.calc_model.proofs.Areas.{places_all, all_places}
 use Rattle.plain_evaluator.specs.Plain.{book_of}
 use Rattle.calc_model.proofs.Knowing.{unknown}
 use Rattle.plain_evaluator.proofs.Sweeps.{list_all-find, found_entry}

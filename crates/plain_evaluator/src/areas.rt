@@ -7,7 +7,7 @@ use calc_addr::{Area, Cell, NoMemory};
 use calc_model::Tree;
 
 /// Appends the areas that a formula at `home` reads, in order of writing, in a book without names.
-/// Linear in the tree.
+/// Linear in the tree. Where memory is refused, some of them may stand in `out`.
 #[cycle(reading)]
 #[tactic(auto, using(crate::proofs::TreeAreas::tree_areas))]
 pub fn push_areas(home: Cell, tree: &Tree, out: &mut Vec<Area>) -> Result<(), NoMemory>

@@ -17,7 +17,7 @@ use std::alloc::Global;
 use std::collections::BTreeSet;
 
 /// The formulas that are touched or reach a touched cell by reading. They are found by sweeps over the
-/// cells in area order until a sweep adds nothing; one sweep suffices where formulas read to the left
+/// cells in their order until a sweep adds nothing; the first finds all where formulas read to the left
 /// and above.
 pub(crate) fn reached(
     alloc: Global,

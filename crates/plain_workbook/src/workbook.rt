@@ -1,5 +1,5 @@
 //! A workbook as a plain map of cells.
-ghost use Rattle.std.specs.Prelude.{◌≡◌, IfOk, IsErrOf, OnOk, false};
+ghost use Rattle.std.specs.Prelude.{◌≡◌, IfOk, IsErrOf, OnOk, OnErr, false};
 ghost use Rattle.calc_addr.specs.Cells.{Place};
 ghost use Rattle.calc_model.specs.Results.{ShowsAll};
 ghost use Rattle.calc_model.specs.Stale.{count_in, is_formula_cell, stale_after};
@@ -77,12 +77,15 @@ impl PlainWorkbook {
         &self.cells
     }
 
-    /// Makes an edit. After want of memory the workbook is no longer to be used.
+    /// Makes an edit; all but `Set` and `Clear` do nothing yet. To set a cell is logarithmic in the cells,
+    /// to clear an area linear. Where memory is refused, the cells are as before, but more formulas than
+    /// before may be stale.
     pub fn edit(&mut self, alloc: Global, edit: &Edit) -> Result<(), EditFault>
         ensures done { OnOk result (step (book_of self.old.cells) edit.now ≡ Ok (book_of self.new.cells)) }
         ensures stale { OnOk result ((q : Place) → stale_of self.new q ≡ stale_after (book_of self.new.cells) edit.now (stale_of self.old) q) }
         ensures full_only { IsErrOf result EditFault.CellsFull → step (book_of self.old.cells) edit.now ≡ Err Cause.CellsFull }
         ensures kept { IsErrOf result EditFault.CellsFull → self.new ≡ self.old }
+        ensures same_cells { OnErr result (self.new.cells ≡ self.old.cells) }
     {
         match edit {
             Edit::Set { cell, content } => self.set(alloc, *cell, content),
@@ -96,6 +99,7 @@ impl PlainWorkbook {
         ensures stale { OnOk result ((q : Place) → stale_of self.new q ≡ stale_after (book_of self.new.cells) (Edit.Set cell content.now) (stale_of self.old) q) }
         ensures full_only { IsErrOf result EditFault.CellsFull → step (book_of self.old.cells) (Edit.Set cell content.now) ≡ Err Cause.CellsFull }
         ensures kept { IsErrOf result EditFault.CellsFull → self.new ≡ self.old }
+        ensures same_cells { OnErr result (self.new.cells ≡ self.old.cells) }
     {
         if is_full(&self.cells, cell, content) {
             return Err(EditFault::CellsFull);
@@ -108,15 +112,16 @@ impl PlainWorkbook {
     fn clear(&mut self, area: Area) -> Result<(), EditFault>
         ensures done { OnOk result (step (book_of self.old.cells) (Edit.Clear area) ≡ Ok (book_of self.new.cells)) }
         ensures stale { OnOk result ((q : Place) → stale_of self.new q ≡ stale_after (book_of self.new.cells) (Edit.Clear area) (stale_of self.old) q) }
-        ensures memory { IsErrOf result EditFault.CellsFull → ⊥ }
+        ensures never_full { IsErrOf result EditFault.CellsFull → ⊥ }
+        ensures same_cells { OnErr result (self.new.cells ≡ self.old.cells) }
     {
         self.touched.add_area(area)?;
         clear_area(&mut self.cells, area);
         Ok(())
     }
 
-    /// How many formulas are stale. It takes as many sweeps over the cells as the longest way of reading
-    /// against their order, and one more.
+    /// How many formulas are stale. It takes at most two more sweeps over the cells than the longest way
+    /// of reading has steps against their order.
     pub fn stale_count(&self, alloc: Global) -> Result<usize, NoMemory>
         ensures { IfOk result (λ count. count ≡ count_in (book_of self.now.cells) (stale_of self.now)) }
     {
@@ -124,11 +129,13 @@ impl PlainWorkbook {
         Ok(count_found(&self.cells, &found))
     }
 
-    /// The results of all formulas, evaluated from scratch. None is stale afterwards.
+    /// The results of all formulas, evaluated from scratch. None is stale afterwards. Where memory is
+    /// refused, the workbook is as before.
     pub fn recalculate(&mut self, alloc: Global) -> Result<Results, NoMemory>
         ensures shows { IfOk result (λ results. ShowsAll (book_of self.new.cells) (results_of results.entries)) }
         ensures cells { self.new.cells ≡ self.old.cells }
         ensures stale { OnOk result ((q : Place) → stale_of self.new q ≡ false) }
+        ensures kept { OnErr result (self.new ≡ self.old) }
     {
         let results = evaluate(alloc, &self.cells)?;
         self.touched = Touched::none(alloc);
