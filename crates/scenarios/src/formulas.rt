@@ -25,103 +25,98 @@ const ROWS: [Row; 3] = [
     ),
 ];
 
-/// Fields, and how `formulas` writes the cell that holds them. A formula is written in another form
-/// than its field here, and a field that spells none as it stands. Each row of the grammar stands
-/// beside its nearest misses.
-const FIELDS: [(&str, &str); 82] = [
+/// Fields of a column, and how `formulas` writes them. A formula is written in another form than its
+/// field here, and a field that spells none as it stands. Each token of the grammar stands beside its
+/// nearest misses.
+const TOKENS: [Row; 6] = [
     // fronts
-    ("= 1", "=1"),
-    (" =1", " =1"),
-    ("== 1", "=1"),
-    ("= =1", "= =1"),
-    ("=== 1", "=== 1"),
-    ("of:= 1", "=1"),
-    ("of:== 1", "=1"),
-    ("of: = 1", "of: = 1"),
-    ("OF:= 1", "OF:= 1"),
-    ("= ", "= "),
+    (
+        "",
+        "set A1 = 1\nset A2  =1\nset A3 == 1\nset A4 = =1\nset A5 === 1\nset A6 of:= 1\nset A7 of:== 1\nset A8 of: = 1\nset A9 OF:= 1\nset A10 = \nformulas A1:A10\n",
+        "=1\n =1\n=1\n= =1\n=== 1\n=1\n=1\nof: = 1\nOF:= 1\n= \n",
+        0,
+    ),
     // numbers
-    ("=1.50", "=1.5"),
-    ("=1.", "=1"),
-    ("=.5", "=0.5"),
-    ("=.", "=."),
-    ("=1e2", "=100"),
-    ("=1e", "=1e"),
-    ("=1 2", "=1 2"),
-    ("=1e20", "=#OVER!"),
+    (
+        "",
+        "set A1 =1.50\nset A2 =1.\nset A3 =.5\nset A4 =.\nset A5 =1e2\nset A6 =1e\nset A7 =1 2\nset A8 =1e20\nformulas A1:A8\n",
+        "=1.5\n=1\n=0.5\n=.\n=100\n=1e\n=1 2\n=#OVER!\n",
+        0,
+    ),
     // error constants
-    ("= #OVER!", "=#OVER!"),
-    ("= #over!", "= #over!"),
-    ("= #SYNTAX!", "= #SYNTAX!"),
+    (
+        "",
+        "set A1 = #OVER!\nset A2 = #over!\nset A3 = #SYNTAX!\nformulas A1:A3\n",
+        "=#OVER!\n= #over!\n= #SYNTAX!\n",
+        0,
+    ),
     // texts
-    ("= \"a\"", "\"=\"\"a\"\"\""),
-    ("= \"a\"\"b\"", "\"=\"\"a\"\"\"\"b\"\"\""),
-    ("= \"a\"b\"", "\"= \"\"a\"\"b\"\"\""),
-    ("= \"a", "\"= \"\"a\""),
+    (
+        "",
+        "set A1 = \"a\"\nset A2 = \"a\"\"b\"\nset A3 = \"a\"b\"\nset A4 = \"a\nformulas A1:A4\n",
+        "\"=\"\"a\"\"\"\n\"=\"\"a\"\"\"\"b\"\"\"\n\"= \"\"a\"\"b\"\"\"\n\"= \"\"a\"\n",
+        0,
+    ),
     // references
-    ("=[.$a1]", "=[.$A1]"),
-    ("=[.$ a1]", "=[.$ a1]"),
-    ("= [. A1]", "= [. A1]"),
-    ("=[.amj1048576]", "=[.AMJ1048576]"),
-    ("=[.amk1]", "=[.amk1]"),
-    ("=[.a1048577]", "=[.a1048577]"),
-    ("=[.a0]", "=[.a0]"),
-    ("=[.b2:.a1]", "=[.A1:.B2]"),
-    ("=[.b2 :.a1]", "=[.b2 :.a1]"),
-    ("=[.b2:a1]", "=[.b2:a1]"),
-    ("=[.c:.a]", "=[.A:.C]"),
-    ("=[.3:.1]", "=[.1:.3]"),
-    ("=[.c:.1]", "=[.c:.1]"),
-    ("=[$sheet16.a1]", "=[$Sheet16.A1]"),
-    ("=[$sheet17.a1]", "=[$sheet17.a1]"),
+    (
+        "",
+        "set A1 =[.$a1]\nset A2 =[.$ a1]\nset A3 = [. A1]\nset A4 =[.amj1048576]\nset A5 =[.amk1]\nset A6 =[.a1048577]\nset A7 =[.a0]\nset A8 =[.b2:.a1]\nset A9 =[.b2 :.a1]\nset A10 =[.b2:a1]\nset A11 =[.c:.a]\nset A12 =[.3:.1]\nset A13 =[.c:.1]\nset A14 =[$sheet16.a1]\nset A15 =[$sheet17.a1]\nformulas A1:A15\n",
+        "=[.$A1]\n=[.$ a1]\n= [. A1]\n=[.AMJ1048576]\n=[.amk1]\n=[.a1048577]\n=[.a0]\n=[.A1:.B2]\n=[.b2 :.a1]\n=[.b2:a1]\n=[.A:.C]\n=[.1:.3]\n=[.c:.1]\n=[$Sheet16.A1]\n=[$sheet17.a1]\n",
+        0,
+    ),
     // names
-    ("= rate", "=rate"),
-    ("= 1rate", "= 1rate"),
-    ("= AMK1", "=AMK1"),
-    ("= AMJ1048576", "= AMJ1048576"),
-    ("= A0", "=A0"),
-    ("= a1", "= a1"),
+    (
+        "",
+        "set A1 = rate\nset A2 = 1rate\nset A3 = AMK1\nset A4 = AMJ1048576\nset A5 = A0\nset A6 = a1\nformulas A1:A6\n",
+        "=rate\n= 1rate\n=AMK1\n= AMJ1048576\n=A0\n= a1\n",
+        0,
+    ),
+];
+
+/// The same for the rows of the grammar.
+const EXPRESSIONS: [Row; 6] = [
     // calls
-    ("= A1(1)", "=A1(1)"),
-    ("= A1(1", "= A1(1"),
-    ("= 1(1)", "= 1(1)"),
-    ("= f()", "=F()"),
-    ("= f(;)", "= f(;)"),
-    ("= f(1;2)", "=F(1;2)"),
-    ("= f(1;)", "= f(1;)"),
-    ("= f(1,2)", "\"= f(1,2)\""),
+    (
+        "",
+        "set A1 = A1(1)\nset A2 = A1(1\nset A3 = 1(1)\nset A4 = f()\nset A5 = f(;)\nset A6 = f(1;2)\nset A7 = f(1;)\nset A8 = f(1,2)\nformulas A1:A8\n",
+        "=A1(1)\n= A1(1\n= 1(1)\n=F()\n= f(;)\n=F(1;2)\n= f(1;)\n\"= f(1,2)\"\n",
+        0,
+    ),
     // parentheses
-    ("= ( 1 )", "=(1)"),
-    ("= ( )", "= ( )"),
-    ("= (1", "= (1"),
-    ("= 1)", "= 1)"),
+    (
+        "",
+        "set A1 = ( 1 )\nset A2 = ( )\nset A3 = (1\nset A4 = 1)\nformulas A1:A4\n",
+        "=(1)\n= ( )\n= (1\n= 1)\n",
+        0,
+    ),
     // prefix operators
-    ("= - + 1", "=-+1"),
-    ("= -", "= -"),
+    (
+        "",
+        "set A1 = - + 1\nset A2 = -\nformulas A1:A2\n",
+        "=-+1\n= -\n",
+        0,
+    ),
     // percent signs
-    ("= 1 % %", "=1%%"),
-    ("= %", "= %"),
-    // infix operators
-    ("=1 ^ 2", "=1^2"),
-    ("=1 ^", "=1 ^"),
-    ("=1 * 2 / 3", "=1*2/3"),
-    ("=1 * / 3", "=1 * / 3"),
-    ("=1 + 2 - 3", "=1+2-3"),
-    ("=1 + * 3", "=1 + * 3"),
-    ("=1 & 2", "=1&2"),
-    ("=1 & & 2", "=1 & & 2"),
-    ("=1 = 2", "=1=2"),
-    ("=1 == 2", "=1 == 2"),
-    ("=1 <> 2", "=1<>2"),
-    ("=1 < > 2", "=1 < > 2"),
-    ("=1 >< 2", "=1 >< 2"),
-    ("=1 <= 2 < 3", "=1<=2<3"),
-    ("=1 =< 2", "=1 =< 2"),
-    ("=1 >= 2 > 3", "=1>=2>3"),
-    ("=1 => 2", "=1 => 2"),
-    ("=1 ; 2", "=1 ; 2"),
-    ("=1 ! 2", "=1 ! 2"),
-    ("=1 : 2", "=1 : 2"),
+    (
+        "",
+        "set A1 = 1 % %\nset A2 = %\nformulas A1:A2\n",
+        "=1%%\n= %\n",
+        0,
+    ),
+    // infix operators of arithmetic and texts
+    (
+        "",
+        "set A1 =1 ^ 2\nset A2 =1 ^\nset A3 =1 * 2 / 3\nset A4 =1 * / 3\nset A5 =1 + 2 - 3\nset A6 =1 + * 3\nset A7 =1 & 2\nset A8 =1 & & 2\nset A9 =1 = 2\nset A10 =1 == 2\nformulas A1:A10\n",
+        "=1^2\n=1 ^\n=1*2/3\n=1 * / 3\n=1+2-3\n=1 + * 3\n=1&2\n=1 & & 2\n=1=2\n=1 == 2\n",
+        0,
+    ),
+    // comparisons, and what is no operator
+    (
+        "",
+        "set A1 =1 <> 2\nset A2 =1 < > 2\nset A3 =1 >< 2\nset A4 =1 <= 2 < 3\nset A5 =1 =< 2\nset A6 =1 >= 2 > 3\nset A7 =1 => 2\nset A8 =1 ; 2\nset A9 =1 ! 2\nset A10 =1 : 2\nformulas A1:A10\n",
+        "=1<>2\n=1 < > 2\n=1 >< 2\n=1<=2<3\n=1 =< 2\n=1>=2>3\n=1 => 2\n=1 ; 2\n=1 ! 2\n=1 : 2\n",
+        0,
+    ),
 ];
 
 /// A text made of parts, each so many times over.
@@ -186,9 +181,17 @@ fn formulas_are_written_in_one_form(rt: HostRuntime) -> Result<(), Fail> {
 }
 
 #[test]
-fn the_grammar_parts_formulas_from_raw_fields(rt: HostRuntime) -> Result<(), Fail> {
-    for (field, written) in FIELDS {
-        expect_written(&rt, rt.alloc(), field, written)?;
+fn tokens_part_formulas_from_raw_fields(rt: HostRuntime) -> Result<(), Fail> {
+    for row in TOKENS {
+        expect(&rt, rt.alloc(), row)?;
+    }
+    Ok(())
+}
+
+#[test]
+fn expressions_part_formulas_from_raw_fields(rt: HostRuntime) -> Result<(), Fail> {
+    for row in EXPRESSIONS {
+        expect(&rt, rt.alloc(), row)?;
     }
     Ok(())
 }
