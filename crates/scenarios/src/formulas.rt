@@ -122,9 +122,9 @@ const EXPRESSIONS: [Row; 6] = [
 /// A text made of parts, each so many times over.
 type Parts = [(&'static str, usize); 3];
 
-/// What stands behind a formula's front, at a limit of reading and one past it: parentheses that are
-/// open at one point, parameters of a call, tokens, and the bytes of the formula.
-const LIMITS: [(Parts, Parts); 4] = [
+/// What stands behind a formula's front and a blank, at a limit of reading and one past it: parentheses
+/// that are open at one point, parameters of a call, tokens, bytes of a name, and bytes of the formula.
+const LIMITS: [(Parts, Parts); 5] = [
     (
         [("(", 64), ("1", 1), (")", 64)],
         [("(", 65), ("1", 1), (")", 65)],
@@ -138,8 +138,12 @@ const LIMITS: [(Parts, Parts); 4] = [
         [("+", 2), ("1", 1), ("+1", 511)],
     ),
     (
-        [("rate", 1), ("s", 8_186), ("", 0)],
-        [("rate", 1), ("s", 8_187), ("", 0)],
+        [("rate", 1), ("s", 251), ("", 0)],
+        [("rate", 1), ("s", 252), ("", 0)],
+    ),
+    (
+        [("all_months", 1), ("+price_in_each_month", 409), ("", 0)],
+        [("all_months", 1), ("+price_in_each_month", 409), ("s", 1)],
     ),
 ];
 
