@@ -1,6 +1,7 @@
 -- Worked examples of texts and their readings, each computed.
 use Rattle.std.proofs.Common.{◌≡◌, ◌*◌, ◌-◌, ◌^◌, pos, neg_ℤ, [], codes, refl}
 use Rattle.calc_num.specs.declared.parse.Reading.TheVariants.{Number, TooLarge, NotNumber}
+use Rattle.calc_num.specs.Fronts.{unsigned_len}
 use Rattle.calc_num.specs.Spelling.{reading}
 
 leading_zeros_count_for_nothing : reading (codes "007") ≡ Number (pos (7 * 10 ^ 9))
@@ -65,3 +66,15 @@ a_blank_is_no_part_of_a_number = refl
 
 no_byte_is_no_number : reading [] ≡ NotNumber
 no_byte_is_no_number = refl
+
+a_number_ends_before_another_sign : unsigned_len (codes "1.5e3+2") ≡ 5
+a_number_ends_before_another_sign = refl
+
+a_number_ends_before_a_second_point : unsigned_len (codes "1.e-2.") ≡ 5
+a_number_ends_before_a_second_point = refl
+
+an_exponent_is_taken_without_digits : unsigned_len (codes "1e;2") ≡ 2
+an_exponent_is_taken_without_digits = refl
+
+no_number_stands_before_a_letter : unsigned_len (codes "a1") ≡ 0
+no_number_stands_before_a_letter = refl

@@ -5,9 +5,10 @@
 //!
 //! A result is exact or rounded to the nearest billionth, halves away from zero, and where it is out
 //! of range the fault is `Over`. No call allocates. Each takes constant time, but for `pow` with its
-//! up to 1,024 products, and `read`, which is linear in its text.
+//! up to 1,024 products, and `read` and `unsigned_len`, which are linear in their text.
 #![tactic(auto)]
 
+mod front;
 mod multiply;
 mod num;
 mod parse;
@@ -16,6 +17,7 @@ mod print;
 mod rounding;
 mod split;
 
+pub use front::unsigned_len;
 pub use num::{Num, NumFault};
 pub use parse::Reading;
 pub use print::NumText;

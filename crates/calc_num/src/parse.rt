@@ -33,7 +33,7 @@ fn digit_number(digit: u8) -> u8
 
 /// Digits, with the number that they write, or the bound where that is greater.
 #[derive(Clone, Copy)]
-struct Digits<'a> {
+pub(crate) struct Digits<'a> {
     bytes: &'a [u8],
     number: u64,
     ghost digits: { list_all is_ascii_digit bytes.now ≡ true },
@@ -57,7 +57,7 @@ fn read_digits(text: &[u8]) -> (usize, u64)
 }
 
 /// Parts a text behind the digits that it begins with.
-fn split_digits(text: &[u8]) -> (Digits<'_>, &[u8])
+pub(crate) fn split_digits(text: &[u8]) -> (Digits<'_>, &[u8])
     ensures digits { result.0.bytes.now ≡ front_digits text.now }
     ensures rest { result.1.now ≡ behind_digits text.now }
 {
@@ -67,7 +67,7 @@ fn split_digits(text: &[u8]) -> (Digits<'_>, &[u8])
 }
 
 /// Parts a text behind a point that it begins with and the digits behind that.
-fn split_fraction(text: &[u8]) -> (Digits<'_>, &[u8])
+pub(crate) fn split_fraction(text: &[u8]) -> (Digits<'_>, &[u8])
     ensures digits { result.0.bytes.now ≡ fraction_digits text.now }
     ensures rest { result.1.now ≡ behind_fraction text.now }
 {
@@ -106,7 +106,7 @@ fn read_whole(text: &[u8]) -> Option<i128>
 }
 
 /// Parts a text behind the sign that it may begin with, and says whether that is a minus.
-fn split_sign(text: &[u8]) -> (bool, &[u8])
+pub(crate) fn split_sign(text: &[u8]) -> (bool, &[u8])
     ensures negative { result.0 ≡ is_negative text.now }
     ensures rest { result.1.now ≡ behind_sign text.now }
 {

@@ -9,6 +9,7 @@ use Rattle.std.proofs.lemmas.Bool.Decides.{nat_tests}
 use Rattle.std.proofs.lemmas.List.{take-append-drop}
 use Rattle.std.proofs.lemmas.Option.{same_Some, some_pair_parts}
 use Rattle.std.proofs.lemmas.Slice.Eq.{bytes_eq-Decides}
+use Rattle.calc_num.specs.Fronts.{unsigned_len}
 use Rattle.calc_num.specs.Spelling.{reading}
 use Rattle.calc_num.specs.declared.parse.Reading.{Reading}
 use Rattle.calc_num.specs.declared.parse.Reading.TheVariants as readings
@@ -22,7 +23,7 @@ use Rattle.calc_model.specs.declared.fault.Fault.{Fault}
 use Rattle.calc_model.specs.declared.fault.Fault.TheVariants.{Over}
 use Rattle.calc_model.specs.declared.tree.Tree.{Tree}
 use Rattle.calc_model.specs.declared.tree.Tree.TheVariants as t
-use Rattle.formula_reader.specs.Leaves.{error_at, error_tree, is_closing, number_at, number_len, number_tree, operand_at, prepend, reference_at, reference_tree, string_at, unquoted, words_of}
+use Rattle.formula_reader.specs.Leaves.{error_at, error_tree, is_closing, number_at, number_tree, operand_at, prepend, reference_at, reference_tree, string_at, unquoted, words_of}
 use Rattle.formula_reader.specs.Unread.{beside}
 use Rattle.formula_reader.proofs.NumberFronts.{some_or}
 use Rattle.formula_reader.proofs.Quoting.{quoted_parts}
@@ -50,7 +51,7 @@ take_no_sign (suc n) byte rest h = digit_no_sign byte h
 
 number_says : (byte : ℕ) (bytes rest : List ℕ) (x : Tree) → (is_ascii_digit byte || (byte == 46)) ≡ true → number_at (byte ∷ bytes) ≡ Some (x, rest) → Found (byte ∷ bytes) x rest
 number_says byte bytes rest x first h =
-    let n = number_len (byte ∷ bytes) in
+    let n = unsigned_len (byte ∷ bytes) in
     let token = take n (byte ∷ bytes) in
     let made = map_some (beside (drop n (byte ∷ bytes))) (number_tree (reading token)) (x, rest) h in
     let tree : made.0 ≡ x = ap (λ (p : Tree × List ℕ). p.0) made.2 in

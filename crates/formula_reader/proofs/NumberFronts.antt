@@ -6,10 +6,11 @@ use Rattle.std.specs.List.{prefix_len}
 use Rattle.std.proofs.lemmas.Bool.{cond-false, cond-true, eqb-true, or_from, or_parts}
 use Rattle.std.proofs.lemmas.Bool.Decides.{nat_tests}
 use Rattle.std.proofs.lemmas.List.{drop_at, length-append, take_at}
+use Rattle.calc_num.specs.Fronts.{behind_exponent, unsigned_len}
 use Rattle.calc_num.specs.Spelling.{Unsigned, behind_digits, behind_fraction, behind_sign, exponent, fraction_digits, front_digits, is_negative, reading, reading_of, signed_whole, unsigned, whole_number}
 use Rattle.calc_model.specs.Grammar.{is_signed}
 use Rattle.calc_model.specs.declared.tree.Tree.{Tree}
-use Rattle.formula_reader.specs.Leaves.{behind_exponent, number_at, number_len, number_tree}
+use Rattle.formula_reader.specs.Leaves.{number_at, number_tree}
 use Rattle.formula_reader.specs.Unread.{beside}
 use Rattle.formula_reader.proofs.Fronts.{Stops, begins, begins_less, is_no_stop}
 
@@ -135,10 +136,10 @@ number_in_front text rest x stops sign e =
     let ends = begins_less is_in_number is_no_stop rest (stop_in_number) stops in
     let n = read_unsigned (is_negative text) (unsigned (behind_sign text)) x e in
     let same : unsigned text ≡ Some n.0 = ap unsigned (sym (no_sign_behind text sign)) ∙ n.1 in
-    let len : number_len (text ++ rest) ≡ length text =
+    let len : unsigned_len (text ++ rest) ≡ length text =
     ap (λ t. length (text ++ rest) - length t) (unsigned_end text rest n.0 ends same) ∙ omega (arith, length-append text rest) in
-    let front : take (number_len (text ++ rest)) (text ++ rest) ≡ text = take_at text rest (number_len (text ++ rest)) (sym len) in
-    let back : drop (number_len (text ++ rest)) (text ++ rest) ≡ rest = drop_at text rest (number_len (text ++ rest)) (sym len) in
-    ap (λ t. option_map (beside (drop (number_len (text ++ rest)) (text ++ rest))) (number_tree (reading t))) front
+    let front : take (unsigned_len (text ++ rest)) (text ++ rest) ≡ text = take_at text rest (unsigned_len (text ++ rest)) (sym len) in
+    let back : drop (unsigned_len (text ++ rest)) (text ++ rest) ≡ rest = drop_at text rest (unsigned_len (text ++ rest)) (sym len) in
+    ap (λ t. option_map (beside (drop (unsigned_len (text ++ rest)) (text ++ rest))) (number_tree (reading t))) front
     ∙ ap (λ t. option_map (beside t) (number_tree (reading text))) back
     ∙ ap (option_map (beside rest)) e

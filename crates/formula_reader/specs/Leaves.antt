@@ -1,9 +1,10 @@
 -- The tokens that are operands by themselves, at the front of what is left: the tree, and the bytes behind.
-use Rattle.std.specs.Prelude.{ℕ, ◌==◌, ◌-◌, ◌||◌, nat_eq, Bool, true, false, List, [], ◌∷◌, length, take, drop, Option, Some, None, option_map, if◌then◌else◌}
+use Rattle.std.specs.Prelude.{ℕ, ◌==◌, ◌||◌, nat_eq, Bool, true, false, List, [], ◌∷◌, length, take, drop, Option, Some, None, option_map, if◌then◌else◌}
 use Rattle.std.specs.Char.{is_ascii_digit}
 use Rattle.std.specs.List.{after_first, before_first, find, list_any, starts_with}
 use Rattle.std.specs.Str.{is_utf8}
-use Rattle.calc_num.specs.Spelling.{behind_digits, behind_fraction, behind_sign, reading}
+use Rattle.calc_num.specs.Fronts.{unsigned_len}
+use Rattle.calc_num.specs.Spelling.{reading}
 use Rattle.calc_num.specs.declared.parse.Reading.{Reading}
 use Rattle.calc_num.specs.declared.parse.Reading.TheVariants as readings
 use Rattle.calc_addr.specs.Bracketed.{spelled_reference}
@@ -16,22 +17,13 @@ use Rattle.calc_model.specs.Fields.{error_constants}
 use Rattle.calc_model.specs.Values.{fault_text}
 use Rattle.formula_reader.specs.Unread.{◌>>=◌, beside}
 
--- what stands behind an exponent, if one stands in front
-abbrev pub behind_exponent : List ℕ → List ℕ
-behind_exponent [] = []
-behind_exponent (byte ∷ rest) = if byte == 101 || byte == 69 then behind_digits (behind_sign rest) else byte ∷ rest
-
--- how many bytes in front have the form of an unsigned number
-abbrev pub number_len : List ℕ → ℕ
-number_len bytes = length bytes - length (behind_exponent (behind_fraction (behind_digits bytes)))
-
 abbrev pub number_tree : Reading → Option Tree
 number_tree (readings.Number n) = Some (t.Number n)
 number_tree readings.TooLarge = Some (t.Bad Over)
 number_tree readings.NotNumber = None
 
 abbrev pub number_at : List ℕ → Option (Tree × List ℕ)
-number_at bytes = option_map (beside (drop (number_len bytes) bytes)) (number_tree (reading (take (number_len bytes) bytes)))
+number_at bytes = option_map (beside (drop (unsigned_len bytes) bytes)) (number_tree (reading (take (unsigned_len bytes) bytes)))
 
 -- one more byte of a text in front
 abbrev pub prepend : ℕ → Option (List ℕ × List ℕ) → Option (List ℕ × List ℕ)

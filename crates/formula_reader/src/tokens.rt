@@ -1,8 +1,7 @@
 ghost use Rattle.calc_model.specs.Contents.{is_error_constant};
 ghost use Rattle.calc_model.specs.Fields.{error_constants};
 ghost use Rattle.calc_model.specs.Values.{fault_text};
-ghost use Rattle.calc_num.specs.Spelling.{behind_digits, behind_fraction, behind_sign};
-ghost use Rattle.formula_reader.specs.Leaves.{behind_exponent, error_at, is_closing, number_at, number_len, operand_at, reference_at, string_at, unquoted};
+ghost use Rattle.formula_reader.specs.Leaves.{error_at, is_closing, number_at, operand_at, reference_at, string_at, unquoted};
 ghost use Rattle.formula_reader.specs.Unread.{Gives, bytes_behind, tree_behind};
 ghost use Rattle.calc_model.specs.declared.fault.Fault.{Fault};
 ghost use Rattle.std.specs.Char.{is_ascii_digit};
@@ -13,7 +12,7 @@ use crate::constant::{ERROR_CONSTANTS, to_text};
 use crate::cursor::Stop;
 use calc_addr::read_ref;
 use calc_model::{Fault, List, Tree, is_utf8};
-use calc_num::{Num, Reading};
+use calc_num::{Num, Reading, unsigned_len};
 use std::alloc::Global;
 
 /// The operand of one token at the front, and what stands behind it: a number, a text in quotes, a
@@ -34,67 +33,11 @@ pub(crate) fn operand(alloc: Global, bytes: &[u8]) -> Result<(Tree, &[u8]), Stop
 fn number(bytes: &[u8]) -> Result<(Tree, &[u8]), Stop>
     ensures { Gives tree_behind result (number_at bytes.now) }
 {
-    let (number, rest) = bytes.split_at(number_len(bytes));
+    let (number, rest) = bytes.split_at(unsigned_len(bytes));
     match Num::read(number) {
         Reading::Number(number) => Ok((Tree::Number(number), rest)),
         Reading::TooLarge => Ok((Tree::Bad(Fault::Over), rest)),
         Reading::NotNumber => Err(Stop::Unspelled),
-    }
-}
-
-/// How many bytes in front have the form of an unsigned number.
-fn number_len(bytes: &[u8]) -> usize
-    ensures len { result ≡ number_len bytes.now }
-    ensures within { result ≤ length bytes.now }
-{
-    let rest = behind_exponent(behind_fraction(behind_digits(bytes)));
-    bytes.len() - rest.len()
-}
-
-fn behind_digits(bytes: &[u8]) -> &[u8]
-    ensures rest { result.now ≡ behind_digits bytes.now }
-    ensures shorter { length result.now ≤ length bytes.now }
-{
-    &bytes[digits_len(bytes)..]
-}
-
-fn digits_len(bytes: &[u8]) -> usize
-    ensures within { result ≤ length bytes.now }
-    ensures digits { result ≡ prefix_len is_ascii_digit bytes.now }
-{
-    bytes
-        .iter()
-        .take_while(|byte| byte.is_ascii_digit())
-        .count()
-}
-
-fn behind_fraction(bytes: &[u8]) -> &[u8]
-    ensures rest { result.now ≡ behind_fraction bytes.now }
-    ensures shorter { length result.now ≤ length bytes.now }
-{
-    match bytes {
-        [b'.', rest @ ..] => behind_digits(rest),
-        _ => bytes,
-    }
-}
-
-fn behind_exponent(bytes: &[u8]) -> &[u8]
-    ensures rest { result.now ≡ behind_exponent bytes.now }
-    ensures shorter { length result.now ≤ length bytes.now }
-{
-    match bytes {
-        [b'e' | b'E', rest @ ..] => behind_digits(behind_sign(rest)),
-        _ => bytes,
-    }
-}
-
-fn behind_sign(bytes: &[u8]) -> &[u8]
-    ensures rest { result.now ≡ behind_sign bytes.now }
-    ensures shorter { length result.now ≤ length bytes.now }
-{
-    match bytes {
-        [b'+' | b'-', rest @ ..] => rest,
-        _ => bytes,
     }
 }
 
