@@ -2,7 +2,7 @@ ghost use Rattle.calc_addr.specs.Addresses.{address, printed_rows, sheet_prefix,
 ghost use Rattle.calc_addr.specs.Bracketed.{column_text, corner_text, printed_reference, printed_span, row_text};
 ghost use Rattle.calc_addr.specs.Ends.{AreEnds};
 ghost use Rattle.calc_addr.specs.Letters.{column_letters};
-ghost use Rattle.std.specs.Prelude.{[], codes, decimal, length, ◌*◌, ◌++◌, ◌+◌, ◌<◌, ◌^◌, ◌∷◌, ◌≡◌, ◌≤◌};
+ghost use Rattle.std.specs.Prelude.{[], decimal, length, ◌*◌, ◌++◌, ◌+◌, ◌<◌, ◌∷◌, ◌≡◌, ◌≤◌};
 
 use crate::cell::{Cell, LAST_COL, LAST_ROW, Run};
 use crate::ends::{End, Ends, cols_of, rows_of};

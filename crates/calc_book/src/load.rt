@@ -1,8 +1,7 @@
 //! A book's cells, set field by field.
-ghost use Rattle.std.specs.Prelude.{◌≡◌, ◌≤◌, true, false, [], IfOk, OnOk, IsErrOf};
+ghost use Rattle.std.specs.Prelude.{◌≡◌, ◌≤◌, true, false, IfOk, OnOk, IsErrOf};
 ghost use Rattle.std.specs.List.{list_all};
-ghost use Rattle.calc_script.specs.Lines.{lines_of};
-ghost use Rattle.calc_book.specs.BookForm.{fields_in, is_plain_byte, is_plain_record, is_plain_book, with_fields, with_records, book_cells};
+ghost use Rattle.calc_book.specs.BookForm.{fields_in, is_plain_byte, is_plain_record, is_plain_book, with_fields, book_cells};
 
 use crate::plain::is_plain_book;
 use crate::splitting::fields_of;

@@ -1,5 +1,5 @@
 //! Which books can be read so far.
-ghost use Rattle.std.specs.Prelude.{◌≡◌, ◌≤◌, nat_le, length};
+ghost use Rattle.std.specs.Prelude.{◌≡◌, nat_le, length};
 ghost use Rattle.std.specs.List.{list_all};
 ghost use Rattle.calc_book.specs.BookForm.{fields_in, is_plain_byte, is_plain_record, is_plain_book};
 ghost use Rattle.calc_script.specs.Lines.{lines_of};

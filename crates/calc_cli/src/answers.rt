@@ -1,7 +1,7 @@
 //! What lines of a script do to a workbook, and what they write.
-ghost use Rattle.std.specs.Prelude.{◌≡◌, ◌++◌, IfOk, false, true};
+ghost use Rattle.std.specs.Prelude.{◌≡◌, IfOk, false, true};
 ghost use Rattle.calc_model.specs.Step.{step};
-ghost use Rattle.calc_cli.specs.Output.{accepted, answer, done, edited, recalculated, recalculation, refusal, refusal_text};
+ghost use Rattle.calc_cli.specs.Output.{accepted, answer, done, edited, recalculated, recalculation, refusal_text};
 ghost use Rattle.calc_cli.specs.Records.{held_texts, printed_area, shown_texts};
 ghost use Rattle.calc_cli.specs.Sessions.{given, session_of};
 ghost use Rattle.calc_model.specs.Val.{val};

@@ -1,7 +1,6 @@
 //! The printed text of a number.
-ghost use Rattle.std.specs.Prelude.{◌≡◌, ◌+◌, ◌-◌, ◌==◌, ◌^◌, ◌<◌, ◌≤◌, length, drop, slice_range};
+ghost use Rattle.std.specs.Prelude.{◌≡◌, ◌+◌, ◌-◌, ◌==◌, ◌^◌, ◌<◌, ◌≤◌, length, slice_range};
 ghost use Rattle.std.specs.List.{suffix_len};
-ghost use Rattle.std.specs.Fmt.{decimal};
 ghost use Rattle.calc_num.specs.declared.parse.Reading.TheVariants.{Number};
 ghost use Rattle.calc_num.specs.Spelling.{reading};
 ghost use Rattle.calc_num.specs.Numbers.{printed, printed_size, printed_fraction};

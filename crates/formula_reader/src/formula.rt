@@ -1,5 +1,5 @@
 ghost use Rattle.formula_reader.specs.Unread.{Gives, is_at};
-ghost use Rattle.formula_reader.specs.Reading.{behind_equals, behind_front, comparison_of, formula_of, without};
+ghost use Rattle.formula_reader.specs.Reading.{behind_equals, behind_front, comparison_of, formula_of};
 ghost use Rattle.std.specs.Prelude.{IfOk, option_map, ◌≡◌};
 
 use crate::cursor::{Cursor, Stop, is_at, skip};

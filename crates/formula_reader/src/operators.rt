@@ -1,7 +1,6 @@
 ghost use Rattle.calc_model.specs.Grammar.{op_row};
-ghost use Rattle.formula_reader.specs.Unread.{beside};
 ghost use Rattle.formula_reader.specs.Operators.{attach, greater_at, less_at, of_row, operator_at, row_of, single_operator};
-ghost use Rattle.std.specs.Prelude.{IfOk, List, ℕ, option_map, ◌≡◌};
+ghost use Rattle.std.specs.Prelude.{IfOk, option_map, ◌≡◌};
 
 use calc_addr::NoMemory;
 use calc_model::{Op, Tree};

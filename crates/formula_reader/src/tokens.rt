@@ -1,11 +1,9 @@
-ghost use Rattle.calc_model.specs.Contents.{is_error_constant};
 ghost use Rattle.calc_model.specs.Fields.{error_constants};
 ghost use Rattle.calc_model.specs.Values.{fault_text};
 ghost use Rattle.formula_reader.specs.Leaves.{error_at, is_closing, number_at, operand_at, reference_at, string_at, unquoted};
 ghost use Rattle.formula_reader.specs.Unread.{Gives, bytes_behind, tree_behind};
 ghost use Rattle.calc_model.specs.declared.fault.Fault.{Fault};
-ghost use Rattle.std.specs.Char.{is_ascii_digit};
-ghost use Rattle.std.specs.List.{after_first, before_first, find, list_any, position, prefix_len, starts_with};
+ghost use Rattle.std.specs.List.{after_first, before_first, find, list_any, position, starts_with};
 ghost use Rattle.std.specs.Prelude.{MatchOption, false, length, nat_eq, true, ◌==◌, ◌≡◌, ◌≤◌};
 
 use crate::constant::{ERROR_CONSTANTS, to_text};
