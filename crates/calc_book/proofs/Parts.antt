@@ -1,5 +1,6 @@
 -- The parts of a text have their bytes from it, and there are no more lines than bytes.
 use Rattle.std.proofs.Common.{◌≡◌, ℕ, ◌+◌, ◌<◌, ◌≤◌, ◌==◌, ◌&&◌, not, nat_lt, Bool, true, false, cond, nat_le, List, [], ◌∷◌, zero, suc, length, get_or, refl, arith}
+use Rattle.std.proofs.lemmas.Bool.{leb-true}
 use Rattle.std.specs.List.{list_all, onto_first, slice_split}
 use Rattle.std.specs.Str.{IsUtf8}
 use Rattle.std.proofs.lemmas.Bool.Decides.{nat_tests}
@@ -63,14 +64,11 @@ plain_ascii (x ∷ xs) h (suc i) = plain_ascii xs (second_of (is_plain_byte x) (
 pub plain_utf8 : (xs : List ℕ) → list_all is_plain_byte xs ≡ true → IsUtf8 xs
 plain_utf8 xs h = IsUtf8-from_ascii xs (plain_ascii xs h)
 
-within : (n most : ℕ) → nat_le n most ≡ true → n ≤ most
-within n most h = grind (arith, nat_tests)
-
 pub few_fields : (text : List ℕ) → is_plain_record text ≡ true → length (fields_in text) ≤ 1024
 few_fields text h =
     let filled = nat_lt 0 (length text) in
     let few = nat_le (length (fields_in text)) 1024 in
-    within (length (fields_in text)) 1024 (second_of filled few h)
+    leb-true (length (fields_in text)) 1024 (second_of filled few h)
 
 module _ (bytes : List ℕ) (h : is_plain_book bytes ≡ true) where
   abbrev short : Bool
@@ -80,7 +78,7 @@ module _ (bytes : List ℕ) (h : is_plain_book bytes ≡ true) where
   both_of_bytes = first_of (short && list_all is_plain_byte bytes) (list_all is_plain_record (lines_of bytes)) h
 
   pub short_book : length (lines_of bytes) ≤ 65535
-  short_book = omega (arith, few_lines bytes, within (length bytes) 65535 (first_of short (list_all is_plain_byte bytes) both_of_bytes))
+  short_book = omega (arith, few_lines bytes, leb-true (length bytes) 65535 (first_of short (list_all is_plain_byte bytes) both_of_bytes))
 
   pub plain_lines : list_all (list_all is_plain_byte) (lines_of bytes) ≡ true
   plain_lines = lines_pass is_plain_byte bytes (second_of short (list_all is_plain_byte bytes) both_of_bytes)

@@ -3,7 +3,7 @@ use Rattle.std.proofs.Common.{rules, [], ◌≡◌, ℕ, ◌+◌, ◌≤◌, ◌
 use Rattle.std.specs.Io.KnownBytes.{Keeps}
 use Rattle.std.proofs.KnownBytes.{Appends-nil}
 use Rattle.std.proofs.lemmas.List.{drop_all}
-use Rattle.std.proofs.lemmas.Bool.{lt-leb, ltb-true, both_ways}
+use Rattle.std.proofs.lemmas.Bool.{lt-leb, ltb-true, both_ways, leb-true}
 use Rattle.std.proofs.lemmas.Bool.Decides.{leb_tells, nat_tests}
 use Rattle.std.specs.List.{list_all}
 use Rattle.calc_book.specs.BookForm.{Cells, is_plain_book, is_plain_byte, is_plain_record, book_cells}
@@ -56,8 +56,6 @@ pub loaded_whole : (cells : Option Cells) (book taken : List ℕ) → taken ≡ 
 loaded_whole cells book taken taken_is loaded = by_size cells book taken taken_is (leb_tells (length taken) 65535) loaded
 
 -- an input within its limit has no byte behind it
-within_test : (n most : ℕ) → nat_le n most ≡ true → n ≤ most
-within_test n most h = grind (arith, nat_tests)
 
 not_beyond : (most n : ℕ) → nat_lt most n ≡ false → n ≤ most
 not_beyond most n h = grind (arith, nat_tests)
@@ -66,7 +64,7 @@ pub book_ends : (book : List ℕ) → is_plain_book book ≡ true → drop 65536
 book_ends book plain =
     drop_all 65536 book (omega (
       arith,
-      within_test (length book) 65535 (first_of (nat_le (length book) 65535) (list_all is_plain_byte book) (first_of (nat_le (length book) 65535 && list_all is_plain_byte book) (list_all is_plain_record (lines_of book)) plain)),
+      leb-true (length book) 65535 (first_of (nat_le (length book) 65535) (list_all is_plain_byte book) (first_of (nat_le (length book) 65535 && list_all is_plain_byte book) (list_all is_plain_record (lines_of book)) plain)),
     ))
 
 pub script_ends : (script : List ℕ) → nat_lt 16777216 (length script) ≡ false → drop 16777217 script ≡ []

@@ -1,6 +1,6 @@
 -- Which cells reach one of some cells by reading: as many rounds as there are formulas find all of them.
-use Rattle.std.proofs.Common.{◌≡◌, ℕ, zero, suc, add-zero, ◌+◌, ◌-◌, ◌≤◌, Bool, true, false, ◌||◌, List, [], ◌∷◌, refl, ap, subst, ◌∙◌, arith, Option, Some, None, ◌⊎◌, inl, inr, unwrap_or, nat_le}
-use Rattle.std.proofs.lemmas.Bool.Decides.{nat_tests}
+use Rattle.std.proofs.Common.{◌≡◌, ℕ, zero, suc, add-zero, ◌+◌, ◌-◌, ◌≤◌, Bool, true, false, ◌||◌, List, [], ◌∷◌, refl, ap, subst, ◌∙◌, arith, ◌⊎◌, inl, inr, nat_le}
+use Rattle.std.proofs.lemmas.Bool.{leb-true}
 use Rattle.std.specs.List.{list_any}
 use Rattle.std.specs.Ordering.{eq_by_cmp, is_eq}
 use Rattle.std.proofs.lemmas.Cmp.{tied_itself}
@@ -12,6 +12,7 @@ use Rattle.calc_model.specs.Books.{Book, content_at, area_named, is_formula, for
 use Rattle.calc_model.specs.Reads.{reads, content_areas}
 use Rattle.calc_model.specs.Stale.{Cells, any_cell, reaches_in, reaches, Reaches, ReachesAtAll, ReachesIndeed, is_formula_cell}
 use Rattle.calc_model.proofs.Counting.{count, count_le_all, same_where_counted}
+use Rattle.calc_model.proofs.Rounds.{held_entry, more_lt}
 use Rattle.calc_model.proofs.Places.{same_places, places_total}
 
 pub or_true : (b : Bool) → (b || true) ≡ true
@@ -98,10 +99,6 @@ module _ (book : Book) (cells : Cells) where
   reached_count : ℕ → ℕ
   reached_count k = count place_cmp same_places is_formula (reaches_in book cells k) book.cells
 
-  held_entry : (o : Option Content) → is_formula (unwrap_or o Empty) ≡ true → (x : Content) × (o ≡ Some x) × (is_formula x ≡ true)
-  held_entry (Some x) h = (x, refl, h)
-  held_entry None h = cc
-
   reads_none : (x : Content) (q : Place) → is_formula x ≡ false → content_areas q (area_named book) x ≡ []
   reads_none Empty q h = refl
   reads_none (Constant v) q h = refl
@@ -128,19 +125,13 @@ module _ (book : Book) (cells : Cells) where
         | false ↦ λ is_not. constant_reached k q is_not h
       ] refl
 
-  no_more_le : (m n : ℕ) → nat_le m n ≡ true → m ≤ n
-  no_more_le m n h = grind (arith, nat_tests)
-
-  more_lt : (m n k : ℕ) → nat_le m n ≡ false → k ≤ n → suc k ≤ m
-  more_lt m n k h le = grind (arith, nat_tests)
-
   counted : (k : ℕ) → ((j : ℕ) × (j ≤ k) × IsLast j) ⊎ (k ≤ reached_count k)
   counted zero = inr (omega arith)
   counted (suc k) =
       elim (counted k) [
         | inl last ↦ inl (last.0, omega arith, last.2)
         | inr few ↦ elim (nat_le (reached_count (suc k)) (reached_count k)) as (λ b. nat_le (reached_count (suc k)) (reached_count k) ≡ b → ((j : ℕ) × (j ≤ suc k) × IsLast j) ⊎ (suc k ≤ reached_count (suc k))) [
-          | true ↦ λ no_more. inl (k, omega arith, last_by_count k (no_more_le (reached_count (suc k)) (reached_count k) no_more))
+          | true ↦ λ no_more. inl (k, omega arith, last_by_count k (leb-true (reached_count (suc k)) (reached_count k) no_more))
           | false ↦ λ more. inr (more_lt (reached_count (suc k)) (reached_count k) k more few)
         ] refl
       ]

@@ -1,6 +1,7 @@
 -- Rounds of grounding: what one round grounds the next one does, and after as many rounds as there are
 -- formulas nothing more is grounded.
 use Rattle.std.proofs.Common.{◌≡◌, ℕ, zero, suc, ◌+◌, ◌-◌, ◌≤◌, Bool, true, false, not, List, [], ◌∷◌, refl, ap, subst, arith, Option, Some, None, ◌⊎◌, inl, inr, unwrap_or, nat_le}
+use Rattle.std.proofs.lemmas.Bool.{leb-true, not-true, not-false}
 use Rattle.std.proofs.lemmas.Bool.Decides.{nat_tests}
 use Rattle.std.specs.List.{list_all}
 use Rattle.std.specs.FinMap.Entries.{find}
@@ -22,6 +23,15 @@ all_cells_more f g implies (a ∷ areas) h =
     let rest : all_cells g areas ≡ true = all_cells_more f g implies areas parts.1 in
     rw (here, rest) refl
 
+-- a formula that a search finds is held
+pub held_entry : (o : Option Content) → is_formula (unwrap_or o Empty) ≡ true → (x : Content) × (o ≡ Some x) × (is_formula x ≡ true)
+held_entry (Some x) h = (x, refl, h)
+held_entry None h = cc
+
+-- a count that grows past one of so many is greater than these
+pub more_lt : (m n k : ℕ) → nat_le m n ≡ false → k ≤ n → suc k ≤ m
+more_lt m n k h le = grind (arith, nat_tests)
+
 module _ (book : Book) where
   -- a cell that holds no formula reads nothing
   reads_none : (x : Content) (p : Place) → is_formula x ≡ false → content_areas p (area_named book) x ≡ []
@@ -30,16 +40,8 @@ module _ (book : Book) where
   reads_none (Formula t) p h = cc
   reads_none (Raw t) p h = refl
 
-  not_true : (b : Bool) → not b ≡ true → b ≡ false
-  not_true true h = cc
-  not_true false h = refl
-
-  not_false : (b : Bool) → not b ≡ false → b ≡ true
-  not_false true h = refl
-  not_false false h = cc
-
   pub grounded_once_more : (k : ℕ) (p : Place) → is_grounded book k p ≡ true → is_grounded book (suc k) p ≡ true
-  grounded_once_more zero p h = ap (all_cells (is_grounded book zero)) (reads_none (content_at book p) p (not_true _ h))
+  grounded_once_more zero p h = ap (all_cells (is_grounded book zero)) (reads_none (content_at book p) p (not-true _ h))
   grounded_once_more (suc k) p h = all_cells_more (is_grounded book k) (is_grounded book (suc k)) (grounded_once_more k) (reads book p) h
 
   pub grounded_later : (k j : ℕ) (p : Place) → is_grounded book k p ≡ true → is_grounded book (j + k) p ≡ true
@@ -78,10 +80,6 @@ module _ (book : Book) where
   grounded_count : ℕ → ℕ
   grounded_count k = count place_cmp same_places is_formula (is_grounded book k) book.cells
 
-  held_entry : (o : Option Content) → is_formula (unwrap_or o Empty) ≡ true → (x : Content) × (o ≡ Some x) × (is_formula x ≡ true)
-  held_entry (Some x) h = (x, refl, h)
-  held_entry None h = cc
-
   last_by_count : (k : ℕ) → grounded_count (suc k) ≤ grounded_count k → IsLast k
   unfolding IsLast grounded_count content_at
   last_by_count k le p g =
@@ -92,19 +90,13 @@ module _ (book : Book) where
         | false ↦ λ is_not. grounded_constant k p is_not
       ] refl
 
-  no_more_le : (m n : ℕ) → nat_le m n ≡ true → m ≤ n
-  no_more_le m n h = grind (arith, nat_tests)
-
-  more_lt : (m n k : ℕ) → nat_le m n ≡ false → k ≤ n → suc k ≤ m
-  more_lt m n k h le = grind (arith, nat_tests)
-
   counted : (k : ℕ) → ((j : ℕ) × (j ≤ k) × IsLast j) ⊎ (k ≤ grounded_count k)
   counted zero = inr (omega arith)
   counted (suc k) =
       elim (counted k) [
         | inl last ↦ inl (last.0, omega arith, last.2)
         | inr few ↦ elim (nat_le (grounded_count (suc k)) (grounded_count k)) as (λ b. nat_le (grounded_count (suc k)) (grounded_count k) ≡ b → ((j : ℕ) × (j ≤ suc k) × IsLast j) ⊎ (suc k ≤ grounded_count (suc k))) [
-          | true ↦ λ no_more. inl (k, omega arith, last_by_count k (no_more_le (grounded_count (suc k)) (grounded_count k) no_more))
+          | true ↦ λ no_more. inl (k, omega arith, last_by_count k (leb-true (grounded_count (suc k)) (grounded_count k) no_more))
           | false ↦ λ more. inr (more_lt (grounded_count (suc k)) (grounded_count k) k more few)
         ] refl
       ]
@@ -129,10 +121,10 @@ module _ (book : Book) where
       ap not (subst (λ m. is_grounded book m p ≡ true) all_rounds (grounded_later last.0 (n - last.0) p at_last))
 
   pub not_circular : (p : Place) → is_circular book p ≡ false → is_grounded book (formula_count book + 1) p ≡ true
-  not_circular p h = not_false _ h
+  not_circular p h = not-false _ h
 
   -- a cell all of whose reads are not circular is not circular
   pub grounded_by_reads : (p : Place) → all_cells (λ q. not (is_circular book q)) (reads book p) ≡ true → is_circular book p ≡ false
   grounded_by_reads p h =
       grounded_ever (suc (formula_count book + 1)) p
-      (all_cells_more (λ q. not (is_circular book q)) (is_grounded book (formula_count book + 1)) (λ q e. not_circular q (not_true _ e)) (reads book p) h)
+      (all_cells_more (λ q. not (is_circular book q)) (is_grounded book (formula_count book + 1)) (λ q e. not_circular q (not-true _ e)) (reads book p) h)

@@ -1,5 +1,6 @@
 -- What cells show: the fixed point, and how results that are found in any order come to it.
-use Rattle.std.proofs.Common.{◌≡◌, ℕ, zero, suc, ◌+◌, Bool, true, false, not, cond, List, [], ◌∷◌, refl, sym, ap, subst, ◌∙◌, arith}
+use Rattle.std.proofs.Common.{◌≡◌, ℕ, zero, suc, ◌+◌, Bool, true, false, cond, List, [], ◌∷◌, refl, sym, ap, subst, ◌∙◌, arith}
+use Rattle.std.proofs.lemmas.Bool.{not-true}
 use Rattle.std.specs.List.{list_all}
 use Rattle.calc_addr.specs.Cells.{Place, Rectangle, places}
 use Rattle.calc_model.specs.declared.fault.Fault.TheVariants.{Circular}
@@ -43,15 +44,11 @@ module _ (book : Book) where
   constant_rounds zero p h = refl
   constant_rounds (suc j) p h = constant_same (area_named book) (is_circular book p) true (after_rounds book j) (λ _. Blank) p (content_at book p) h
 
-  not_true : (b : Bool) → not b ≡ true → b ≡ false
-  not_true true h = cc
-  not_true false h = refl
-
   -- what a round has grounded shows the same in each later round
   pub stable : (k j : ℕ) (p : Place) → is_grounded book k p ≡ true → after_rounds book (j + k) p ≡ after_rounds book k p
   stable zero j p h =
       let e : j ≡ j + zero = omega arith in
-      subst (λ n. after_rounds book n p ≡ after_rounds book zero p) e (constant_rounds j p (not_true _ h))
+      subst (λ n. after_rounds book n p ≡ after_rounds book zero p) e (constant_rounds j p (not-true _ h))
   stable (suc k) j p h =
       let e : suc (j + k) ≡ j + suc k = omega arith in
       let agree : Agree (after_rounds book (j + k)) (after_rounds book k) (reads book p) =

@@ -6,7 +6,7 @@ use Rattle.calc_script.specs.Lines.{lines_of}
 abbrev until_feed : List ℕ → ℕ
 until_feed xs = prefix_len (λ byte. not (byte == 10)) xs
 
-longer_front : (n x : ℕ) (xs : List ℕ) → take (1 + n) (x ∷ xs) ≡ x ∷ take n xs
+pub longer_front : (n x : ℕ) (xs : List ℕ) → take (1 + n) (x ∷ xs) ≡ x ∷ take n xs
 longer_front n x xs = let e : 1 + n ≡ suc n = omega arith in ap (λ k. take k (x ∷ xs)) e
 
 longer_back : (n x : ℕ) (xs : List ℕ) → drop (1 + n + 1) (x ∷ xs) ≡ drop (n + 1) xs

@@ -6,12 +6,10 @@ use Rattle.std.proofs.lemmas.List.Splits.{slice_split-cons_yes, slice_split-cons
 use Rattle.std.proofs.lemmas.List.{drop_all, take_all}
 use Rattle.std.proofs.lemmas.Bool.{cases_lt}
 use Rattle.calc_script.specs.Words.{is_space, without_spaces, up_to_space, behind_space, has_bytes, words_of}
+use Rattle.calc_script.proofs.Cutting.{longer_front}
 
 pub longer_drop : (n x : ℕ) (xs : List ℕ) → drop (1 + n) (x ∷ xs) ≡ drop n xs
 longer_drop n x xs = let e : 1 + n ≡ suc n = omega arith in ap (λ k. drop k (x ∷ xs)) e
-
-longer_take : (n x : ℕ) (xs : List ℕ) → take (1 + n) (x ∷ xs) ≡ x ∷ take n xs
-longer_take n x xs = let e : 1 + n ≡ suc n = omega arith in ap (λ k. take k (x ∷ xs)) e
 
 -- a space at the front starts no word
 past_space : (x : ℕ) (xs : List ℕ) → is_space x ≡ true → words_of (x ∷ xs) ≡ words_of xs
@@ -55,7 +53,7 @@ first_part xs = elim (cases_lt (position_or_len is_space xs) (length xs)) [
 begins : (x : ℕ) (xs : List ℕ) → is_space x ≡ false → has_bytes (up_to_space (x ∷ xs)) ≡ true
 begins x xs h =
     let P : Bool → Type 0 = λ b. has_bytes (take (cond (not b) (1 + position_or_len is_space xs) 0) (x ∷ xs)) ≡ true in
-    subst P (sym h) (ap has_bytes (longer_take (position_or_len is_space xs) x xs))
+    subst P (sym h) (ap has_bytes (longer_front (position_or_len is_space xs) x xs))
 
 -- a text that begins with no space begins with its first word
 first_word : (x : ℕ) (xs : List ℕ) → is_space x ≡ false → words_of (x ∷ xs) ≡ up_to_space (x ∷ xs) ∷ words_of (behind_space (x ∷ xs))

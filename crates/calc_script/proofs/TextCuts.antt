@@ -5,7 +5,7 @@ use Rattle.std.specs.Str.{IsUtf8, is_utf8}
 use Rattle.std.proofs.lemmas.Str.{IsUtf8-nil, IsUtf8-drop, IsUtf8-from_is_utf8, is_utf8-from_IsUtf8, IsCharBoundary-after_ascii}
 use Rattle.std.proofs.lemmas.List.{drop_all}
 use Rattle.std.proofs.lemmas.List.Sums.{prefix_len_stops}
-use Rattle.std.proofs.lemmas.Bool.{cases_lt}
+use Rattle.std.proofs.lemmas.Bool.{cases_lt, not-false}
 use Rattle.calc_script.proofs.Splitting.{longer_drop}
 use Rattle.calc_script.specs.Words.{is_space, without_spaces, behind_space}
 
@@ -20,10 +20,6 @@ other_bytes_fail bs n =
 
 behind_ascii : (bs : List ℕ) (i : ℕ) → IsUtf8 bs → i < length bs → get_or bs i 0 < 128 → IsUtf8 (drop (i + 1) bs)
 behind_ascii bs i u l a = IsUtf8-drop bs (i + 1) u (IsCharBoundary-after_ascii bs i u l a)
-
-passes : (b : Bool) → not b ≡ false → b ≡ true
-passes true h = refl
-passes false h = cc
 
 space_is_ascii : (x : ℕ) → is_space x ≡ true → x < 128
 space_is_ascii x h = grind (arith, h)
@@ -43,7 +39,7 @@ behind_space_text bs u =
     let at : ℕ = position_or_len is_space bs in
     elim (cases_lt at (length bs)) [
       | inl some ↦
-          let space : is_space (get_or bs at 0) ≡ true = passes (is_space (get_or bs at 0)) (prefix_len_stops (λ x. not (is_space x)) bs 0 some) in
+          let space : is_space (get_or bs at 0) ≡ true = not-false (is_space (get_or bs at 0)) (prefix_len_stops (λ x. not (is_space x)) bs 0 some) in
           behind_ascii bs at u some (space_is_ascii (get_or bs at 0) space)
       | inr none ↦
           let ends : length bs ≤ at + 1 = omega arith in

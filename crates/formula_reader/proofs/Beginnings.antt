@@ -125,7 +125,7 @@ some_begins (one r) = row_begins r
 some_begins (more {front = front} {text = back} blanks args all r) = begins-append is_row_start front (59 ∷ (blanks ++ back)) (some_begins args)
 
 -- what no row begins with
-row_no_blank : (byte : ℕ) → is_row_start byte ≡ true → is_blank byte ≡ false
+pub row_no_blank : (byte : ℕ) → is_row_start byte ≡ true → is_blank byte ≡ false
 row_no_blank byte h = grind (arith, nat_tests)
 
 start_no_front : (byte : ℕ) → is_start byte ≡ true → is_sign_or_blank byte ≡ false

@@ -13,7 +13,7 @@ use Rattle.calc_model.specs.declared.tree.Tree.{Tree}
 use Rattle.formula_reader.specs.Unread.{◌>>=◌}
 use Rattle.formula_reader.specs.Reading.{behind_front, comparison_of, formula_by, formula_of, whole, without}
 use Rattle.formula_reader.specs.Rows.{comparison_at}
-use Rattle.formula_reader.proofs.Beginnings.{behind_blanks, is_row_start, row_begins}
+use Rattle.formula_reader.proofs.Beginnings.{behind_blanks, is_row_start, row_begins, row_no_blank}
 use Rattle.formula_reader.proofs.Fronts.{at, begins, begins_other, behind-all}
 use Rattle.formula_reader.proofs.SpellingsRead.{comparison_reads, row_read}
 use Rattle.formula_reader.proofs.TreeCounts.{open_of, parameters_of, tokens_of}
@@ -47,9 +47,6 @@ limits_of x h =
       opens = leb-true (open_of x) 64 first.1;
       parameters = leb-true (parameters_of x) 30 parts.1;
     }
-
-row_no_blank : (byte : ℕ) → is_row_start byte ≡ true → is_blank byte ≡ false
-row_no_blank byte h = grind (arith, nat_tests)
 
 row_no_equals : (byte : ℕ) → is_row_start byte ≡ true → is_equals byte ≡ false
 row_no_equals byte h = grind (arith, nat_tests)

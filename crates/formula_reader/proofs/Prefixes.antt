@@ -65,7 +65,7 @@ prefixed_more : (nested : Inside) (byte : ℕ) (front : List ℕ) (l : Unread) (
 prefixed_more nested byte front l true = read_signed byte front (primary_at nested l)
 prefixed_more nested byte front l false = refl
 
-signs_more : (byte : ℕ) (front : List ℕ) → count_by is_sign (byte ∷ front) ≡ cond (is_sign byte) 1 0 + count_by is_sign front
+pub signs_more : (byte : ℕ) (front : List ℕ) → count_by is_sign (byte ∷ front) ≡ cond (is_sign byte) 1 0 + count_by is_sign front
 signs_more byte front = sum_by-cons (λ x. cond (is_sign x) 1 0) byte front
 
 less_by_one : (signs n k : ℕ) → k ≡ 1 + n → nat_le (1 + signs) k ≡ nat_le signs n

@@ -14,6 +14,7 @@ use Rattle.calc_addr.specs.Ends.{in_order, reference_of, whole}
 use Rattle.calc_addr.specs.declared.reference.Span.TheVariants as span
 use Rattle.calc_addr.specs.References.{Reference}
 use Rattle.formula_reader.proofs.NumberFronts.{empty_from}
+use Rattle.formula_reader.proofs.Steps.{either}
 use Rattle.calc_addr.specs.Spelling.{are_digits, are_digits_or_zero, are_letters, column_len, column_part, is_colon, is_point, row_part, sheet_number, sheet_of, undollared}
 use Rattle.calc_addr.specs.declared.read.Spelled.{Spelled}
 use Rattle.calc_addr.specs.declared.read.Spelled.TheVariants.{Is, Outside, Not}
@@ -135,10 +136,6 @@ then_of f (Some a) b e = (a, refl, e)
 chosen : {A : Type 0} (P : Type 0) (x y : Option A) (a : A) → (x ≡ Some a → P) → (y ≡ Some a → P) → option_or x y ≡ Some a → P
 chosen P None y a h k e = k e
 chosen P (Some b) y a h k e = h e
-
-either : {A : Type 0} (P : Type 0) (b : Bool) (x y : Option A) (a : A) → (b ≡ true → x ≡ Some a → P) → (b ≡ false → y ≡ Some a → P) → cond b x y ≡ Some a → P
-either P true x y a h k e = h refl e
-either P false x y a h k e = k refl e
 
 one_cell_none : (sheet : Option ℕ) (text : List ℕ) (r : Reference) → one_cell sheet text ≡ Some r → HasNoClosing text
 one_cell_none sheet text r e =

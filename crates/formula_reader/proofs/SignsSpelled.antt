@@ -1,14 +1,14 @@
 -- The signs in front of a row, with the blanks between them, spell its prefix operators.
-use Rattle.std.proofs.Common.{◌≡◌, ◌+◌, ℕ, Bool, true, false, ◌||◌, cond, List, [], ◌∷◌, ◌++◌, refl, sym, ap, ◌∙◌, subst, arith}
+use Rattle.std.proofs.Common.{◌≡◌, ◌+◌, ℕ, Bool, true, false, ◌||◌, List, [], ◌∷◌, ◌++◌, refl, sym, ap, ◌∙◌, subst, arith}
 use Rattle.std.specs.Prelude.{◌==◌}
 use Rattle.std.specs.List.{count_by, list_all}
 use Rattle.std.proofs.lemmas.Bool.{and_from, and_parts, cond-false, cond-true, eqb-true, or_from}
-use Rattle.std.proofs.lemmas.List.Sums.{sum_by-cons}
 use Rattle.calc_model.specs.Grammar.{IsRow, minus, plus}
 use Rattle.calc_model.specs.Tokens.{are_blanks, is_blank}
 use Rattle.calc_model.specs.declared.tree.Tree.{Tree}
 use Rattle.calc_model.specs.declared.tree.Tree.TheVariants as t
 use Rattle.formula_reader.specs.Rows.{is_sign, is_sign_or_blank, signed}
+use Rattle.formula_reader.proofs.Prefixes.{signs_more}
 use Rattle.formula_reader.proofs.TreeCounts.{minus_counts, open_of, parameters_of, plus_counts, tokens_of}
 
 -- the front and the text behind it are blanks, and a text of a row
@@ -21,9 +21,6 @@ pub record Signed (front text : List ℕ) (x : Tree) : Type 0 where
   pub tokens : tokens_of (signed front x) ≡ count_by is_sign front + tokens_of x
   pub opens : open_of (signed front x) ≡ open_of x
   pub parameters : parameters_of (signed front x) ≡ parameters_of x
-
-signs_more : (byte : ℕ) (front : List ℕ) → count_by is_sign (byte ∷ front) ≡ cond (is_sign byte) 1 0 + count_by is_sign front
-signs_more byte front = sum_by-cons (λ x. cond (is_sign x) 1 0) byte front
 
 with_sign : (byte : ℕ) (front text : List ℕ) (x : Tree) (plussed minussed : Bool) → (byte == 43) ≡ plussed → (byte == 45) ≡ minussed → is_sign_or_blank byte ≡ true → Signed front text x → Signed (byte ∷ front) text x
 with_sign byte front text x true minussed e f passes s =

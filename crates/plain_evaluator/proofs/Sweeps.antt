@@ -1,6 +1,6 @@
 -- What one more result does to what is known of a plain map.
 use Rattle.std.proofs.Common.{◌≡◌, ℕ, ◌<◌, ◌≤◌, Bool, true, false, not, ◌||◌, cond, nat_lt, List, [], ◌∷◌, length, Option, Some, None, is_some, unwrap_or, Bor, refl, sym, ap, subst, ◌∙◌, arith}
-use Rattle.std.proofs.lemmas.Bool.Decides.{nat_tests}
+use Rattle.std.proofs.lemmas.Bool.{ltb-false, ltb-true}
 use Rattle.std.specs.List.{list_all}
 use Rattle.std.specs.Option.{option_copied}
 use Rattle.std.specs.Ordering.{eq_by_cmp, is_eq}
@@ -40,12 +40,6 @@ module _ (book : Book) (results : Results) (cell : Place) where
   pub sound_more : IsSound book results → (new : Results) (tree : Tree) (value : Value) → content_at book cell ≡ Formula tree → is_tree_ready book results cell tree ≡ true → value ≡ top (eval cell (area_named book) (shown_by book results) tree) → Sets results new cell value → IsSound book new
   sound_more sound new tree value at ready is sets =
       sound_with book results sound new cell tree at (ready-Formula book results cell tree at ∙ ready) (subst (Sets results new cell) is sets)
-
-no_less : (m n : ℕ) → nat_lt m n ≡ false → n ≤ m
-no_less m n h = grind (arith, nat_tests)
-
-less_by_test : (m n : ℕ) → nat_lt m n ≡ true → m < n
-less_by_test m n h = grind (arith, nat_tests)
 
 pub known_in_cells : (cells : List (Place × Content)) (results : Results) → known_count cells results ≤ length cells
 unfolding known_count
@@ -92,14 +86,14 @@ module _ (cells : List (Place × Content)) (old new : Results) (cell : Place) (v
         | true ↦ λ less. refl
         | false ↦ λ no_more.
             let entry = found_entry cells cell tree at in
-            let known : before cell ≡ true = same_where_counted place_cmp same_places (λ _. true) before after stays_known cells cell entry.0 (no_less (known_entries before) (known_entries after) no_more) entry.1 refl (known_here tied) in
+            let known : before cell ≡ true = same_where_counted place_cmp same_places (λ _. true) before after stays_known cells cell entry.0 (ltb-false (known_entries before) (known_entries after) no_more) entry.1 refl (known_here tied) in
             let unknown : before cell ≡ false = ap (λ x. not (is_formula x) || is_some (old cell)) at ∙ ap (λ (o : Option Value). is_some o) none in
             cc
       ] refl
 
   pub more_known : (tree : Tree) → content_at (book_of cells) cell ≡ Formula tree → old cell ≡ None → known_count cells old < known_count cells new
   unfolding known_count
-  more_known tree at none = less_by_test (known_entries before) (known_entries after) (more_entries tree at none (ap is_eq (tied_itself place_cmp_total cell)))
+  more_known tree at none = ltb-true (known_entries before) (known_entries after) (more_entries tree at none (ap is_eq (tied_itself place_cmp_total cell)))
 
 -- an option that holds nothing lends nothing
 pub none_copied : {X : Type 0} (o : Option (Bor X)) → is_some o ≡ false → option_copied o ≡ None

@@ -1,9 +1,9 @@
 -- Formulas that reach a touched cell, found in any order: each step from touched or found cells is right, and where no
 -- formula is due any more, all are found.
 use Rattle.std.proofs.Common.{◌≡◌, ℕ, ◌<◌, ◌≤◌, Bool, true, false, not, ◌||◌, ◌&&◌, cond, nat_lt, List, [], ◌++◌, length, refl, sym, ap, subst, ◌∙◌, inl, inr, arith}
+use Rattle.std.proofs.lemmas.Bool.{and_from, ltb-false, ltb-true, and_parts}
 use Rattle.std.specs.List.{list_all}
 use Rattle.std.specs.Ordering.{eq_by_cmp}
-use Rattle.std.proofs.lemmas.Bool.Decides.{nat_tests}
 use Rattle.std.proofs.lemmas.List.Filters.{length-filter_both}
 use Rattle.calc_addr.specs.Cells.{Place, Rectangle, place_cmp}
 use Rattle.calc_model.specs.declared.content.Content.{Content}
@@ -93,24 +93,11 @@ module _ (book : Book) (touched : Cells) where
         | inr in_found ↦ in_found
       ]
 
-  both : (b c : Bool) → b ≡ true → c ≡ true → (b && c) ≡ true
-  both true true f g = refl
-  both true false f g = cc
-  both false c f g = cc
-
-  first_of_both : (b c : Bool) → (b && c) ≡ true → b ≡ true
-  first_of_both true c h = refl
-  first_of_both false c h = cc
-
-  second_of_both : (b c : Bool) → (b && c) ≡ true → c ≡ true
-  second_of_both true c h = h
-  second_of_both false c h = cc
-
   -- where none is due, exactly the formulas are found that reach a touched cell
   pub all_found : (found : List Place) → IsFound book touched found → IsClosed book touched found → (q : Place) → contains_cell found q ≡ (is_formula_cell book q && reaches book touched q)
   all_found found is closed q = same_tests _ _
-      (λ h. both _ _ (is.formula q h) (reaches_at_all book touched q (is.reached q h)))
-      (λ h. found_by_mark found closed q (first_of_both _ _ h) (all_marked found closed q (reaches_indeed book touched q (second_of_both _ _ h))))
+      (λ h. and_from _ _ (is.formula q h) (reaches_at_all book touched q (is.reached q h)))
+      (λ h. found_by_mark found closed q (and_parts _ _ h).0 (all_marked found closed q (reaches_indeed book touched q (and_parts _ _ h).1)))
 
   settled_due : (f c d : Bool) → ((not f || c) || not d) ≡ true → f ≡ true → d ≡ true → c ≡ true
   settled_due true true d h is due = refl
@@ -152,12 +139,6 @@ due_by_areas cells touched found cell content tree written before read at is sam
 pub is_formula_at : (cells : List (Place × Content)) (cell : Place) (content : Content) (tree : Tree) → content_at (book_of cells) cell ≡ content → content ≡ Formula tree → is_formula_cell (book_of cells) cell ≡ true
 is_formula_at cells cell content tree at is = ap is_formula (at ∙ is)
 
-no_less : (m n : ℕ) → nat_lt m n ≡ false → n ≤ m
-no_less m n h = grind (arith, nat_tests)
-
-less_by_test : (m n : ℕ) → nat_lt m n ≡ true → m < n
-less_by_test m n h = grind (arith, nat_tests)
-
 module _ (cells : List (Place × Content)) (old new : List Place) (cell : Place) (adds : Adds old new cell) where
   stays_found : (q : Place) → contains_cell old q ≡ true → contains_cell new q ≡ true
   stays_found q h =
@@ -178,14 +159,14 @@ module _ (cells : List (Place × Content)) (old new : List Place) (cell : Place)
         | true ↦ λ less. refl
         | false ↦ λ no_more.
             let entry = found_entry cells cell tree at in
-            let was : contains_cell old cell ≡ true = same_where_counted place_cmp same_places (λ _. true) (contains_cell old) (contains_cell new) stays_found cells cell entry.0 (no_less (found_entries (contains_cell old)) (found_entries (contains_cell new)) no_more) entry.1 refl found_here in
+            let was : contains_cell old cell ≡ true = same_where_counted place_cmp same_places (λ _. true) (contains_cell old) (contains_cell new) stays_found cells cell entry.0 (ltb-false (found_entries (contains_cell old)) (found_entries (contains_cell new)) no_more) entry.1 refl found_here in
             cc
       ] refl
 
   -- a formula that wasn't found before counts once more
   pub more_found : (content : Content) (tree : Tree) → content_at (book_of cells) cell ≡ content → content ≡ Formula tree → contains_cell old cell ≡ false → found_count cells old < found_count cells new
   unfolding found_count
-  more_found content tree at is absent = less_by_test (found_entries (contains_cell old)) (found_entries (contains_cell new)) (more_entries tree (at ∙ is) absent)
+  more_found content tree at is absent = ltb-true (found_entries (contains_cell old)) (found_entries (contains_cell new)) (more_entries tree (at ∙ is) absent)
 
 pub found_within : (cells : List (Place × Content)) (found : List Place) → found_count cells found ≤ length cells
 unfolding found_count

@@ -2,7 +2,7 @@
 use Rattle.std.proofs.Common.{◌≡◌, Bool, true, false, ◌||◌, ◌&&◌, cond, List, [], ◌∷◌, length, refl, sym, ap, subst, ◌∙◌, ◌⊎◌, inl, inr}
 use Rattle.std.specs.List.{filter}
 use Rattle.std.specs.Ordering.{eq_by_cmp}
-use Rattle.std.proofs.lemmas.Bool.{false_from_ne_true}
+use Rattle.std.proofs.lemmas.Bool.{false_from_ne_true, and_from, and_parts}
 use Rattle.calc_addr.specs.Cells.{Place, Rectangle, place_cmp}
 use Rattle.calc_model.specs.declared.content.Content.{Content}
 use Rattle.calc_model.specs.declared.edit.Edit.{Edit}
@@ -17,19 +17,6 @@ use Rattle.plain_evaluator.proofs.TreeAreas.{no_name_is_defined}
 use Rattle.plain_workbook.specs.Reach.{found_count}
 use Rattle.plain_workbook.specs.Touched.{contains_cell, is_touched}
 use Rattle.plain_workbook.specs.Workbook.{State, stale_of}
-
-both : (b c : Bool) → b ≡ true → c ≡ true → (b && c) ≡ true
-both true true f g = refl
-both true false f g = cc
-both false c f g = cc
-
-first_of_both : (b c : Bool) → (b && c) ≡ true → b ≡ true
-first_of_both true c h = refl
-first_of_both false c h = cc
-
-second_of_both : (b c : Bool) → (b && c) ≡ true → c ≡ true
-second_of_both true c h = h
-second_of_both false c h = cc
 
 -- a book changes at some cells at most, and these join those that were touched before
 module _ (before after : List (Place × Content)) (old edited all : Cells) (same : (q : Place) → edited q ≡ false → content_at (book_of after) q ≡ content_at (book_of before) q) (joined : (q : Place) → all q ≡ (old q || edited q)) where
@@ -82,7 +69,7 @@ module _ (before after : List (Place × Content)) (old edited all : Cells) (same
       elim (parted q (reaches_indeed (book_of after) all q h)) [
         | inl was ↦ elim (edited_or_not q) [
           | inl is ↦ or_second (stale_before q) (reaches (book_of after) edited q) (reaches_at_all (book_of after) edited q (Reaches.itself is))
-          | inr is_not ↦ or_first (stale_before q) (reaches (book_of after) edited q) (both _ _ (ap is_formula (sym (same q is_not)) ∙ formula) (reaches_at_all (book_of before) old q was))
+          | inr is_not ↦ or_first (stale_before q) (reaches (book_of after) edited q) (and_from _ _ (ap is_formula (sym (same q is_not)) ∙ formula) (reaches_at_all (book_of before) old q was))
         ]
         | inr now ↦ or_second (stale_before q) (reaches (book_of after) edited q) (reaches_at_all (book_of after) edited q now)
       ]
@@ -90,15 +77,15 @@ module _ (before after : List (Place × Content)) (old edited all : Cells) (same
   from_edit : (q : Place) → (stale_before q || reaches (book_of after) edited q) ≡ true → reaches (book_of after) all q ≡ true
   from_edit q h =
       elim (either (stale_before q) (reaches (book_of after) edited q) h) [
-        | inl was ↦ reaches_at_all (book_of after) all q (kept q (reaches_indeed (book_of before) old q (second_of_both _ _ was)))
+        | inl was ↦ reaches_at_all (book_of after) all q (kept q (reaches_indeed (book_of before) old q (and_parts _ _ was).1))
         | inr now ↦ reaches_at_all (book_of after) all q (more q (reaches_indeed (book_of after) edited q now))
       ]
 
   -- the formulas that reach any touched cell are those that were stale or reach one that the edit touched
   pub stale_joined : (q : Place) → (is_formula_cell (book_of after) q && reaches (book_of after) all q) ≡ (is_formula_cell (book_of after) q && (stale_before q || reaches (book_of after) edited q))
   stale_joined q = same_tests _ _
-      (λ h. both _ _ (first_of_both _ _ h) (to_edit q (first_of_both _ _ h) (second_of_both _ _ h)))
-      (λ h. both _ _ (first_of_both _ _ h) (from_edit q (second_of_both _ _ h)))
+      (λ h. and_from _ _ (and_parts _ _ h).0 (to_edit q (and_parts _ _ h).0 (and_parts _ _ h).1))
+      (λ h. and_from _ _ (and_parts _ _ h).0 (from_edit q (and_parts _ _ h).1))
 
 -- no cell reaches one of none
 none_reached : (book : Book) (cells : Cells) → ((q : Place) → cells q ≡ false) → (q : Place) → Reaches book cells q → ⊥
