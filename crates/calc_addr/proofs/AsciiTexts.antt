@@ -8,7 +8,7 @@ use Rattle.std.proofs.lemmas.Str.{IsAscii-append}
 use Rattle.std.proofs.lemmas.Str.Ascii.{IsAscii-cons, IsAscii-nil, IsAscii-push}
 use Rattle.calc_addr.specs.Addresses.{address, printed_rows, sheet_prefix, sheet_word}
 use Rattle.calc_addr.specs.Bracketed.{column_text, corner_text, printed_reference, printed_sheet, printed_span, row_text, with_dollar}
-use Rattle.calc_addr.specs.Cells.{Place, IsPlace, Rows, IsRows, IsRectangle}
+use Rattle.calc_addr.specs.Places.{Place, IsPlace, Rows, IsRows, IsRectangle}
 use Rattle.calc_addr.specs.Ends.{cols_of, rows_of}
 use Rattle.calc_addr.specs.Letters.{column_letters, last_letters}
 use Rattle.calc_addr.specs.References.{Reference}

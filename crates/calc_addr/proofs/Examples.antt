@@ -2,7 +2,7 @@
 use Rattle.std.proofs.Common.{◌≡◌, ℕ, ◌*◌, true, false, List, [], ◌∷◌, Option, Some, None, codes, refl}
 use Rattle.std.specs.Fmt.{digits}
 use Rattle.std.specs.Prelude.{option_map}
-use Rattle.calc_addr.specs.Cells.{Place, Rectangle, cell_count, covers, places, single}
+use Rattle.calc_addr.specs.Places.{Place, Rectangle, cell_count, covers, places, single}
 use Rattle.calc_addr.specs.Letters.{column_letters}
 use Rattle.calc_addr.specs.Addresses.{address, printed_rows}
 use Rattle.calc_addr.specs.Bracketed.{printed_reference, spelled_reference}

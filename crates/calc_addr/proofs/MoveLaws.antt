@@ -5,7 +5,7 @@ use Rattle.std.proofs.lemmas.Bool.{and_from, and_parts, leb-true, cond-true, le-
 use Rattle.std.proofs.lemmas.Int.{ints}
 use Rattle.std.proofs.lemmas.Option.{cond_some}
 use Rattle.calc_addr.specs.Bracketed.{together}
-use Rattle.calc_addr.specs.Cells.{IsRectangle}
+use Rattle.calc_addr.specs.Places.{IsRectangle}
 use Rattle.calc_addr.specs.Ends.{AreEnds, in_order, cols_of, rows_of}
 use Rattle.calc_addr.specs.Moves.{AreSameEnds, IsSameReference, at_distance, moved_end, moved_ends, moved_cols, moved_rows, moved_reference, with_ends}
 use Rattle.calc_addr.specs.References.{Reference, IsReference, IsValidReference}

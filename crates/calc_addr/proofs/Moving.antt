@@ -1,7 +1,7 @@
 -- References that move with their formula.
 use Rattle.std.proofs.Common.{◌≡◌, ℕ, ℤ, Option, Some, None, sym, ap, ◌∙◌}
 use Rattle.calc_addr.specs.Bracketed.{together}
-use Rattle.calc_addr.specs.Cells.{Rectangle}
+use Rattle.calc_addr.specs.Places.{Rectangle}
 use Rattle.calc_addr.specs.Ends.{in_order, cols_of, rows_of}
 use Rattle.calc_addr.specs.Moves.{moved_end, moved_ends, moved_cols, moved_rows, with_ends}
 use Rattle.calc_addr.specs.References.{IsSpanned}

@@ -4,7 +4,7 @@ use Rattle.std.specs.Cmp.{IsTotalOrder}
 use Rattle.std.specs.Ordering.{nat_cmp, ordering_then}
 use Rattle.std.proofs.lemmas.Bool.Decides.{nat_tests}
 use Rattle.std.proofs.lemmas.Cmp.{nat_cmp_total, on_total, then_total}
-use Rattle.calc_addr.specs.Cells.{Place, place_cmp, IsBefore}
+use Rattle.calc_addr.specs.Places.{Place, place_cmp, IsBefore}
 
 pub place_cmp_total : IsTotalOrder place_cmp
 place_cmp_total =

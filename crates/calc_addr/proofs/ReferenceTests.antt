@@ -2,7 +2,7 @@
 use Rattle.std.proofs.Common.{◌≡◌, ℕ, Bool, true, false, not, ◌&&◌, ◌||◌, refl, ap, eq-eqb}
 use Rattle.std.specs.Prelude.{◌==◌, nat_le}
 use Rattle.std.proofs.lemmas.Bool.{and_from, and_parts, eqb-true, le-leb, leb-true, not-true}
-use Rattle.calc_addr.specs.Cells.{Rectangle, IsRectangle}
+use Rattle.calc_addr.specs.Places.{Rectangle, IsRectangle}
 use Rattle.calc_addr.specs.References.{Reference, IsSpanned, IsValidReference}
 use Rattle.calc_addr.specs.ValidReferences.{is_rectangle, are_alike, is_spanned, is_valid_reference}
 use Rattle.calc_addr.specs.declared.reference.Span.{Span}

@@ -11,7 +11,7 @@ use Rattle.std.proofs.lemmas.List.{append-nil}
 use Rattle.std.proofs.lemmas.List.Folds.{list_any-append}
 use Rattle.calc_addr.specs.Addresses.{sheet_word}
 use Rattle.calc_addr.specs.Bracketed.{after_point, column_end, column_text, corner_ends, corner_text, end_of, printed_reference, printed_sheet, printed_span, spelled_reference, two_cells, two_columns, two_rows, written_sheet, inside, is_marked, row_end, row_text, spelled_span, together, two_ends, with_dollar}
-use Rattle.calc_addr.specs.Cells.{IsRectangle}
+use Rattle.calc_addr.specs.Places.{IsRectangle}
 use Rattle.calc_addr.specs.Ends.{AreEnds, in_order, whole, reference_of, cols_of, rows_of}
 use Rattle.calc_addr.specs.Letters.{column_letters, column_number}
 use Rattle.calc_addr.specs.References.{Reference, IsReference, IsSpanned, IsOne}

@@ -12,7 +12,7 @@ use Rattle.std.proofs.lemmas.List.Folds.{list_all-append, list_any-append}
 use Rattle.std.proofs.lemmas.List.Sums.{fold_push}
 use Rattle.std.proofs.lemmas.Str.Parse.{IsNumeralModel, numerals_by_value}
 use Rattle.calc_addr.specs.Bracketed.{with_dollar}
-use Rattle.calc_addr.specs.Cells.{Place, IsPlace}
+use Rattle.calc_addr.specs.Places.{Place, IsPlace}
 use Rattle.calc_addr.specs.Letters.{last_letters, column_letters, letter_value, column_number}
 use Rattle.calc_addr.specs.Addresses.{address, sheet_word}
 use Rattle.calc_addr.specs.Spelling.{are_digits, are_digits_or_zero, are_letters, both, column_len, column_of, column_part, row_part, from_zero, is_point, row_of, sheet_of, sheet_part, after_sheet, spelled_address, spelled_cell, undollared, up_to, place_on}

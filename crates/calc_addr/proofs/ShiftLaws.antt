@@ -3,7 +3,7 @@ use Rattle.std.proofs.Common.{◌≡◌, ℕ, ◌-◌, ◌≤◌, true, false, �
 use Rattle.std.specs.Prelude.{nat_le, option_map}
 use Rattle.std.proofs.lemmas.Bool.{cond-true, cond-false, leb-true, and_from, and_left, eq-eqb, cases_Bool, not-true}
 use Rattle.std.proofs.lemmas.Bool.Decides.{nat_tests}
-use Rattle.calc_addr.specs.Cells.{Rectangle, IsRectangle}
+use Rattle.calc_addr.specs.Places.{Rectangle, IsRectangle}
 use Rattle.calc_addr.specs.References.{Reference, IsReference, IsValidReference, IsSpanned, IsOne, AreColumns, AreRows}
 use Rattle.calc_addr.specs.Shifts.{area_after_insertion, area_after_deletion, has_all_rows, is_deleted, on_area, reference_after_insertion, reference_after_deletion, row_after_insertion, row_after_deletion, with_rows}
 use Rattle.calc_addr.specs.declared.reference.Marks.{Marks}

@@ -3,7 +3,7 @@ use Rattle.std.proofs.Common.{◌≡◌, ℕ, ◌-◌, ◌<◌, ◌≤◌, Bool,
 use Rattle.std.specs.Prelude.{nat_le, ◌==◌}
 use Rattle.std.proofs.lemmas.Bool.{leb-true, leb-false, le-leb, and_parts}
 use Rattle.std.proofs.lemmas.Bool.Decides.{nat_tests}
-use Rattle.calc_addr.specs.Cells.{Place, Rectangle, covers}
+use Rattle.calc_addr.specs.Places.{Place, Rectangle, covers}
 use Rattle.calc_addr.proofs.Places.{IsCovered-from}
 use Rattle.calc_addr.specs.Shifts.{area_after_insertion, area_after_deletion, has_all_rows, is_deleted, row_after_insertion, row_after_deletion, with_rows}
 

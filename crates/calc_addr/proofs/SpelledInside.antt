@@ -4,7 +4,7 @@ use Rattle.std.specs.Prelude.{nat_le}
 use Rattle.std.specs.List.{list_any, before_first, after_first}
 use Rattle.std.specs.Str.Parse.{digits_value}
 use Rattle.std.proofs.lemmas.Bool.{and_parts, leb-true}
-use Rattle.calc_addr.specs.Cells.{Place, IsPlace, Rectangle, IsRectangle}
+use Rattle.calc_addr.specs.Places.{Place, IsPlace, Rectangle, IsRectangle}
 use Rattle.calc_addr.specs.Letters.{column_number}
 use Rattle.calc_addr.specs.Spelling.{after_sheet, are_digits, are_letters, area_on, both, column_of, column_part, is_colon, place_on, row_of, row_part, sheet_part, spanned, spelled_address, spelled_area, spelled_cell, spelled_corners, undollared, up_to}
 use Rattle.calc_addr.specs.declared.read.Spelled.{Spelled}

@@ -2,7 +2,7 @@
 use Rattle.std.proofs.Common.{◌≡◌, ℕ, suc, ◌+◌, ◌-◌, ◌≤◌, ◌<◌, Bool, true, false, cond, nat_lt, List, [], ◌∷◌, ◌++◌, map, Option, Some, None, refl, sym, ap, subst, ◌∙◌, arith}
 use Rattle.std.proofs.lemmas.Bool.Decides.{nat_tests}
 use Rattle.std.specs.List.{flat_map, range_with_len}
-use Rattle.calc_addr.specs.Cells.{Place, Rectangle, covers, places, places_from, place_after, corner, column_places, from_to, IsInArea, row_at, rows_of, rows_from, below_first}
+use Rattle.calc_addr.specs.Places.{Place, Rectangle, covers, places, places_from, place_after, corner, column_places, from_to, IsInArea, row_at, rows_of, rows_from, below_first}
 use Rattle.calc_addr.proofs.Places.{IsCovered, IsCovered-from}
 
 from_to-cons : (first last : ℕ) → first ≤ last → from_to first last ≡ first ∷ from_to (first + 1) last

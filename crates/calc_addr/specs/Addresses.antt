@@ -1,7 +1,7 @@
 -- How a cell is printed: the letters of its column in capitals, then its row, and before them the
 -- sheet where it isn't the first one, as in `Sheet2.B1`.
 use Rattle.std.specs.Prelude.{ℕ, ◌+◌, ◌==◌, if◌then◌else◌, List, [], ◌++◌, codes, decimal}
-use Rattle.calc_addr.specs.Cells.{Place, Rows}
+use Rattle.calc_addr.specs.Places.{Place, Rows}
 use Rattle.calc_addr.specs.Letters.{column_letters}
 
 -- the sheet's word: `Sheet1` for the first sheet, which has the number 0

@@ -1,6 +1,6 @@
 pub mod Addresses
 pub mod Bracketed
-pub mod Cells
+pub mod Places
 pub mod Ends
 pub mod Letters
 pub mod Moves

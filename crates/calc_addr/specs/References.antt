@@ -1,6 +1,6 @@
 -- References of formulas: an area, how it was spelled, and which parts were marked.
 use Rattle.std.specs.Prelude.{◌≡◌, false, if◌then◌else◌}
-use Rattle.calc_addr.specs.Cells.{Rectangle, IsRectangle, Place}
+use Rattle.calc_addr.specs.Places.{Rectangle, IsRectangle, Place}
 use Rattle.calc_addr.specs.declared.reference.Span.{Span}
 use Rattle.calc_addr.specs.declared.reference.Span.TheVariants.{One, Cells, Columns, Rows}
 use Rattle.calc_addr.specs.declared.reference.Marks.{Marks}

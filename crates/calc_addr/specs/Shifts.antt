@@ -2,7 +2,7 @@
 -- The first and the last row of the area go with the sheet's rows. An area that has all rows stays,
 -- however it was spelled and also where all rows are deleted. Marks say nothing here.
 use Rattle.std.specs.Prelude.{ℕ, Bool, ◌+◌, ◌-◌, ◌&&◌, ◌==◌, nat_le, nat_lt, min, if◌then◌else◌, Option, Some, None, option_map}
-use Rattle.calc_addr.specs.Cells.{Place, Rectangle}
+use Rattle.calc_addr.specs.Places.{Place, Rectangle}
 use Rattle.calc_addr.specs.References.{Reference}
 
 abbrev pub has_all_rows : Rectangle → Bool

@@ -5,7 +5,7 @@ use Rattle.std.specs.Prelude.{ℕ, Bool, false, not, ◌-◌, ◌&&◌, ◌==◌
 use Rattle.std.specs.List.{list_all, list_any, prefix_len, before_first, after_first, starts_with}
 use Rattle.std.specs.Char.{is_ascii_alphabetic, is_ascii_digit, to_ascii_lowercase}
 use Rattle.std.specs.Str.Parse.{digits_value}
-use Rattle.calc_addr.specs.Cells.{Place, Rectangle}
+use Rattle.calc_addr.specs.Places.{Place, Rectangle}
 use Rattle.calc_addr.specs.Letters.{column_number}
 use Rattle.calc_addr.specs.declared.read.Spelled.{Spelled}
 use Rattle.calc_addr.specs.declared.read.Spelled.TheVariants.{Is, Outside, Not}

@@ -1,7 +1,7 @@
 -- A test of the references that a formula can have: the area lies in the sheets with its ends in order, its
 -- spelling fits it, and without a written sheet the area's sheet is 0.
 use Rattle.std.specs.Prelude.{not, ◌==◌, ◌&&◌, ◌||◌, nat_le, Bool, true, false}
-use Rattle.calc_addr.specs.Cells.{Rectangle}
+use Rattle.calc_addr.specs.Places.{Rectangle}
 use Rattle.calc_addr.specs.References.{Reference}
 use Rattle.calc_addr.specs.declared.reference.Span.{Span}
 use Rattle.calc_addr.specs.declared.reference.Span.TheVariants.{One, Cells, Columns, Rows}

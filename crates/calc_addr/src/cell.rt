@@ -21,7 +21,7 @@ pub struct Cell {
 }
 
 impl Model for Cell {
-    ghost use Rattle.calc_addr.specs.Cells.{Place, IsPlace};
+    ghost use Rattle.calc_addr.specs.Places.{Place, IsPlace};
 
     ghost Value = { Place };
 
@@ -48,7 +48,7 @@ pub struct Area {
 }
 
 impl Model for Area {
-    ghost use Rattle.calc_addr.specs.Cells.{Rectangle, IsRectangle};
+    ghost use Rattle.calc_addr.specs.Places.{Rectangle, IsRectangle};
 
     ghost Value = { Rectangle };
 
@@ -73,7 +73,7 @@ pub struct Run {
 }
 
 impl Model for Run {
-    ghost use Rattle.calc_addr.specs.Cells.{Rows, IsRows};
+    ghost use Rattle.calc_addr.specs.Places.{Rows, IsRows};
 
     ghost Value = { Rows };
 
@@ -85,7 +85,7 @@ impl Model for Run {
 }
 
 impl Area {
-    ghost use Rattle.calc_addr.specs.Cells.{cell_count, covers};
+    ghost use Rattle.calc_addr.specs.Places.{cell_count, covers};
     ghost use Rattle.std.specs.Prelude.{◌≡◌};
 
     /// Whether the cell is one of the area's.

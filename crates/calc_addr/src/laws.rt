@@ -1,6 +1,6 @@
 ghost use Rattle.calc_addr.specs.Addresses.{address};
 ghost use Rattle.calc_addr.specs.Bracketed.{printed_reference, spelled_reference};
-ghost use Rattle.calc_addr.specs.Cells.{IsBefore, IsPlace, IsRectangle, Place, Rectangle, cell_count, covers, places};
+ghost use Rattle.calc_addr.specs.Places.{IsBefore, IsPlace, IsRectangle, Place, Rectangle, cell_count, covers, places};
 ghost use Rattle.calc_addr.specs.Moves.{IsSameReference, moved_reference};
 ghost use Rattle.calc_addr.specs.References.{IsReference, IsValidReference, Reference};
 ghost use Rattle.calc_addr.specs.Shifts.{area_after_deletion, area_after_insertion, has_all_rows, is_deleted, place_after_deletion, place_after_insertion, reference_after_deletion, reference_after_insertion, row_after_insertion};

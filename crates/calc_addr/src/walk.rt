@@ -1,4 +1,4 @@
-ghost use Rattle.calc_addr.specs.Cells.{IsInArea, below_first, corner, covers, place_after, places, places_from, row_at, rows_from, rows_of};
+ghost use Rattle.calc_addr.specs.Places.{IsInArea, below_first, corner, covers, place_after, places, places_from, row_at, rows_from, rows_of};
 ghost use Rattle.std.specs.Iterator.{YieldsFirst, item_count};
 ghost use Rattle.std.specs.Prelude.{◌≡◌, ◌≤◌, true};
 
@@ -13,7 +13,7 @@ pub struct AreaCells {
 }
 
 impl Model for AreaCells {
-    ghost use Rattle.calc_addr.specs.Cells.{IsInArea, Place, places_from};
+    ghost use Rattle.calc_addr.specs.Places.{IsInArea, Place, places_from};
     ghost use Rattle.std.specs.Prelude.{List};
 
     ghost Value = { List Place };
@@ -30,7 +30,7 @@ pub struct AreaRows {
 }
 
 impl Model for AreaRows {
-    ghost use Rattle.calc_addr.specs.Cells.{Rectangle, rows_from};
+    ghost use Rattle.calc_addr.specs.Places.{Rectangle, rows_from};
     ghost use Rattle.std.specs.Prelude.{List};
 
     ghost Value = { List Rectangle };

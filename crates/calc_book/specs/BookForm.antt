@@ -5,7 +5,7 @@
 use Rattle.std.specs.Prelude.{ℕ, ◌+◌, ◌==◌, ◌&&◌, not, nat_le, nat_lt, Bool, List, [], ◌∷◌, length, Option, Some, None}
 use denote.Ref.{Bor}
 use Rattle.std.specs.List.{list_all, slice_split}
-use Rattle.calc_addr.specs.Cells.{Place}
+use Rattle.calc_addr.specs.Places.{Place}
 use Rattle.calc_model.specs.declared.content.Content.{Content}
 use Rattle.calc_model.specs.Books.{with_content}
 use Rattle.formula_reader.specs.Fields.{field_of}

@@ -1,6 +1,6 @@
 -- The session of a loaded workbook.
 use Rattle.std.proofs.Common.{◌≡◌}
-use Rattle.calc_addr.specs.Cells.{Place}
+use Rattle.calc_addr.specs.Places.{Place}
 use Rattle.calc_book.specs.BookForm.{Cells}
 use Rattle.calc_model.specs.Stale.{is_formula_cell}
 use Rattle.plain_evaluator.specs.Plain.{book_of}

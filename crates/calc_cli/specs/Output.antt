@@ -6,7 +6,7 @@
 use Rattle.std.specs.Prelude.{ℕ, ◌+◌, ◌||◌, Bool, true, false, List, [], ◌∷◌, ◌++◌, codes, Result, Ok, Err}
 use Rattle.std.specs.Fmt.{decimal}
 use Rattle.calc_model.specs.Books.{Book}
-use Rattle.calc_model.specs.Stale.{Cells, count_in, is_formula_cell, stale_after}
+use Rattle.calc_model.specs.Stale.{CellSet, count_in, is_formula_cell, stale_after}
 use Rattle.calc_model.specs.Step as steps
 use Rattle.calc_model.specs.Val.{val}
 use Rattle.calc_model.specs.declared.edit.Edit.{Edit}
@@ -22,7 +22,7 @@ use Rattle.calc_cli.specs.Records.{held_texts, printed_area, shown_texts}
 -- a book, and which of its formulas are stale
 pub record Session : Type 0 where
   pub book : Book
-  pub stale : Cells
+  pub stale : CellSet
 
 -- a loaded book, whose formulas are all stale
 abbrev pub loaded : Book → Session

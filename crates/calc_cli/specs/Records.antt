@@ -6,11 +6,11 @@ use Rattle.std.specs.declared.alloc.Global.{Global}
 use Rattle.csv.specs.declared.writer.Writer.{Writer}
 use Rattle.std.specs.List.{flat_map}
 use Rattle.csv.specs.Writing.{default_writer, row_text, text_written, writer_setup, fields_written, has_written}
-use Rattle.calc_addr.specs.Cells.{Place, Rectangle, places, rows_of}
+use Rattle.calc_addr.specs.Places.{Place, Rectangle, places, rows_of}
 use Rattle.calc_model.specs.Books.{Book, content_at}
 use Rattle.calc_model.specs.Printed.{printed_content}
 use Rattle.calc_model.specs.Scalars.{Values}
-use Rattle.calc_model.specs.Values.{text_of}
+use Rattle.calc_model.specs.ValueTexts.{text_of}
 
 abbrev pub record_text : List (List ℕ) → List ℕ
 record_text fields = row_text default_writer fields

@@ -3,7 +3,7 @@ use Rattle.std.proofs.Common.{◌≡◌, ℕ, zero, suc, ◌+◌, ◌-◌, ◌<�
 use Rattle.std.proofs.lemmas.Bool.Decides.{nat_tests}
 use Rattle.std.proofs.lemmas.List.Folds.{list_all-map, list_all-append}
 use Rattle.std.specs.List.{list_all, flat_map, range_with_len}
-use Rattle.calc_addr.specs.Cells.{Place, Rectangle, covers, places, from_to}
+use Rattle.calc_addr.specs.Places.{Place, Rectangle, covers, places, from_to}
 
 -- what it means that an area covers a cell
 pub record Inside (a : Rectangle) (p : Place) : Type 0 where

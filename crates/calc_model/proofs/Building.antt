@@ -2,7 +2,7 @@
 use Rattle.std.proofs.Common.{◌≡◌, ℕ, ℤ, Bool, true, false, ◌&&◌, cond, List, ap, ◌∙◌, refl, eq-eqb}
 use Rattle.std.specs.Prelude.{◌+ℤ◌}
 use Rattle.calc_num.specs.Decimals.{checked}
-use Rattle.calc_addr.specs.Cells.{Place, Rectangle, corner}
+use Rattle.calc_addr.specs.Places.{Place, Rectangle, corner}
 use Rattle.calc_addr.specs.References.{Reference, here, IsReference, IsSpanned, IsOne}
 use Rattle.calc_addr.specs.declared.reference.Span.{Span}
 use Rattle.calc_addr.specs.declared.reference.Span.TheVariants.{One, Cells, Columns, Rows}

@@ -1,7 +1,7 @@
 -- A formula's value depends on the values of the cells that it reads, and on no others.
 use Rattle.std.proofs.Common.{◌≡◌, Bool, true, false, ◌&&◌, List, [], ◌∷◌, ◌++◌, refl, sym, ap, subst, ◌∙◌, cond, arith, Some}
 use Rattle.std.specs.List.{AllByRecursion}
-use Rattle.calc_addr.specs.Cells.{Place, Rectangle, covers}
+use Rattle.calc_addr.specs.Places.{Place, Rectangle, covers}
 use Rattle.calc_addr.specs.References.{here}
 use Rattle.calc_model.specs.declared.value.Value.TheVariants.{Bad}
 use Rattle.calc_model.specs.declared.fault.Fault.TheVariants.{BadValue, Syntax}

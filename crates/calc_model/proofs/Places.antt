@@ -6,7 +6,7 @@ use Rattle.std.proofs.lemmas.Map.Lookups.{exact_pairs, exact_unsigned}
 use Rattle.std.specs.Ordering.{nat_cmp, ordering_then, eq_by_cmp, is_eq}
 use Rattle.std.specs.declared.cmp.Ordering.{Ordering}
 use Rattle.std.specs.declared.cmp.Ordering.TheVariants.{Less, Equal, Greater}
-use Rattle.calc_addr.specs.Cells.{Place, place_cmp}
+use Rattle.calc_addr.specs.Places.{Place, place_cmp}
 
 pub places_total : IsTotalOrder place_cmp
 places_total = then_total (on_total (λ p. p.sheet) nat_cmp_total) (then_total (on_total (λ p. p.col) nat_cmp_total) (on_total (λ p. p.row) nat_cmp_total))

@@ -5,12 +5,12 @@ use Rattle.std.specs.List.{list_any}
 use Rattle.std.specs.Ordering.{eq_by_cmp, is_eq}
 use Rattle.std.proofs.lemmas.Cmp.{tied_itself}
 use Rattle.std.specs.FinMap.Entries.{find}
-use Rattle.calc_addr.specs.Cells.{Place, Rectangle, place_cmp, places}
+use Rattle.calc_addr.specs.Places.{Place, Rectangle, place_cmp, places}
 use Rattle.calc_model.specs.declared.content.Content.{Content}
 use Rattle.calc_model.specs.declared.content.Content.TheVariants.{Empty, Constant, Formula, Raw}
 use Rattle.calc_model.specs.Books.{Book, content_at, area_named, is_formula, formula_count}
 use Rattle.calc_model.specs.Reads.{reads, content_areas}
-use Rattle.calc_model.specs.Stale.{Cells, any_cell, reaches_in, reaches, Reaches, ReachesAtAll, ReachesIndeed, is_formula_cell}
+use Rattle.calc_model.specs.Stale.{CellSet, any_cell, reaches_in, reaches, Reaches, ReachesAtAll, ReachesIndeed, is_formula_cell}
 use Rattle.calc_model.proofs.Counting.{count, count_le_all, same_where_counted}
 use Rattle.calc_model.proofs.Rounds.{held_entry, more_lt}
 use Rattle.calc_model.proofs.Places.{same_places, places_total}
@@ -41,13 +41,13 @@ some_item f (x ∷ xs) h =
     ]
 
 -- the cell of some areas that passes, and which is one of their cells
-pub some_cell : (f : Cells) (areas : List Rectangle) → any_cell f areas ≡ true → (q : Place) × (f q ≡ true) × ((g : Cells) → g q ≡ true → any_cell g areas ≡ true)
+pub some_cell : (f : CellSet) (areas : List Rectangle) → any_cell f areas ≡ true → (q : Place) × (f q ≡ true) × ((g : CellSet) → g q ≡ true → any_cell g areas ≡ true)
 some_cell f areas h =
     let area = some_item (λ a. list_any f (places a)) areas h in
     let cell = some_item f (places area.0) area.1 in
     (cell.0, cell.1, λ g e. area.2 (λ a. list_any g (places a)) (cell.2 g e))
 
-pub any_cell_more : (f g : Cells) → ((q : Place) → f q ≡ true → g q ≡ true) → (areas : List Rectangle) → any_cell f areas ≡ true → any_cell g areas ≡ true
+pub any_cell_more : (f g : CellSet) → ((q : Place) → f q ≡ true → g q ≡ true) → (areas : List Rectangle) → any_cell f areas ≡ true → any_cell g areas ≡ true
 any_cell_more f g implies areas h =
     let found = some_cell f areas h in
     found.2 g (implies found.0 found.1)
@@ -56,11 +56,11 @@ pub same_cell : (q : Place) → eq_by_cmp place_cmp q q ≡ true
 same_cell q = ap is_eq (tied_itself places_total q)
 
 -- what reads a cell that passes reads one that passes
-pub reads_passing : (f : Cells) (areas : List Rectangle) (read : Place) → any_cell (eq_by_cmp place_cmp read) areas ≡ true → f read ≡ true → any_cell f areas ≡ true
+pub reads_passing : (f : CellSet) (areas : List Rectangle) (read : Place) → any_cell (eq_by_cmp place_cmp read) areas ≡ true → f read ≡ true → any_cell f areas ≡ true
 reads_passing f areas read reads passes =
     any_cell_more (eq_by_cmp place_cmp read) f (λ q tied. subst (λ z. f z ≡ true) (same_places read q tied) passes) areas reads
 
-module _ (book : Book) (cells : Cells) where
+module _ (book : Book) (cells : CellSet) where
   -- what the rounds find reaches one of the cells
   pub in_rounds : (k : ℕ) (q : Place) → reaches_in book cells k q ≡ true → Reaches book cells q
   in_rounds zero q h = Reaches.itself h

@@ -1,6 +1,6 @@
 -- A cell that holds a formula is ready where all that its formula reads is known.
 use Rattle.std.proofs.Common.{◌≡◌, ap}
-use Rattle.calc_addr.specs.Cells.{Place}
+use Rattle.calc_addr.specs.Places.{Place}
 use Rattle.calc_model.specs.declared.content.Content.TheVariants.{Formula}
 use Rattle.calc_model.specs.declared.tree.Tree.{Tree}
 use Rattle.calc_model.specs.Books.{Book, content_at, area_named}

@@ -5,7 +5,7 @@ use Rattle.std.proofs.lemmas.Bool.{leb-true, not-true, not-false}
 use Rattle.std.proofs.lemmas.Bool.Decides.{nat_tests}
 use Rattle.std.specs.List.{list_all}
 use Rattle.std.specs.FinMap.Entries.{find}
-use Rattle.calc_addr.specs.Cells.{Place, Rectangle, place_cmp, places}
+use Rattle.calc_addr.specs.Places.{Place, Rectangle, place_cmp, places}
 use Rattle.calc_model.specs.declared.content.Content.{Content}
 use Rattle.calc_model.specs.declared.content.Content.TheVariants.{Empty, Constant, Formula, Raw}
 use Rattle.calc_model.specs.Books.{Book, content_at, area_named, is_formula, formula_count}

@@ -2,7 +2,7 @@
 use Rattle.std.proofs.Common.{◌≡◌, ℕ, zero, suc, ◌+◌, Bool, true, false, cond, List, [], ◌∷◌, refl, sym, ap, subst, ◌∙◌, arith}
 use Rattle.std.proofs.lemmas.Bool.{not-true}
 use Rattle.std.specs.List.{list_all}
-use Rattle.calc_addr.specs.Cells.{Place, Rectangle, places}
+use Rattle.calc_addr.specs.Places.{Place, Rectangle, places}
 use Rattle.calc_model.specs.declared.fault.Fault.TheVariants.{Circular}
 use Rattle.calc_model.specs.declared.value.Value.TheVariants.{Bad, Blank}
 use Rattle.calc_model.specs.declared.content.Content.{Content}

@@ -5,7 +5,7 @@ use Rattle.std.specs.List.{list_all, flat_map, range_with_len}
 use Rattle.std.specs.Fmt.{digits}
 use Rattle.calc_num.specs.Decimals.{checked}
 use Rattle.calc_num.specs.Numbers.{last_digits}
-use Rattle.calc_addr.specs.Cells.{Place, Rectangle, places, single}
+use Rattle.calc_addr.specs.Places.{Place, Rectangle, places, single}
 use Rattle.calc_addr.specs.References.{IsReference, Reference, here}
 use Rattle.calc_addr.specs.declared.reference.Span.TheVariants.{One}
 use Rattle.calc_model.specs.declared.fault.Fault.TheVariants.{NA, DivZero, BadValue, Over, Syntax, Circular}
@@ -22,7 +22,7 @@ use Rattle.calc_model.specs.Grounded.{all_cells, is_grounded, is_circular}
 use Rattle.calc_model.specs.Reads.{Names, areas, areas_step, content_areas}
 use Rattle.calc_model.specs.Scalars.{scalar_at, on_numbers}
 use Rattle.calc_model.specs.Val.{val}
-use Rattle.calc_model.specs.Values.{text_of}
+use Rattle.calc_model.specs.ValueTexts.{text_of}
 use Rattle.calc_model.proofs.TreeFolds as fold
 use Rattle.calc_model.proofs.Building.{eval_sum, scalar_of_one}
 use Rattle.calc_model.proofs.Shown.{shows_its_value, shows_its_circle}

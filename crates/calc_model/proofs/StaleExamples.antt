@@ -3,14 +3,14 @@
 use Rattle.std.proofs.Common.{◌≡◌, ◌∙◌, ◌||◌, ℕ, suc, Bool, true, false, cond, List, [], ◌∷◌, ap, length, refl}
 use Rattle.std.specs.Prelude.{Ok}
 use Rattle.std.specs.List.{filter, list_any}
-use Rattle.calc_addr.specs.Cells.{Place, places, single}
+use Rattle.calc_addr.specs.Places.{Place, places, single}
 use Rattle.calc_model.specs.declared.content.Content.{Content}
 use Rattle.calc_model.specs.declared.content.Content.TheVariants.{Constant}
 use Rattle.calc_model.specs.declared.edit.Edit.{Edit}
 use Rattle.calc_model.specs.declared.edit.Edit.TheVariants.{Set, Clear}
 use Rattle.calc_model.specs.Books.{Book, area_named, content_at, formula_count}
 use Rattle.calc_model.specs.Reads.{content_areas}
-use Rattle.calc_model.specs.Stale.{Cells, any_cell, count_in, is_formula_cell, reaches, reaches_in, stale_after, touched}
+use Rattle.calc_model.specs.Stale.{CellSet, any_cell, count_in, is_formula_cell, reaches, reaches_in, stale_after, touched}
 use Rattle.calc_model.specs.Step.{step}
 use Rattle.calc_model.proofs.ShownExamples.{areas_of_sum, at, book_of, circle_of_two, one_place, row_of_sums, row_with_a_gap, sum, whole}
 
@@ -19,7 +19,7 @@ without_falses true c = refl
 without_falses false true = refl
 without_falses false false = refl
 
-module _ (book : Book) (col left right : ℕ) (holds : content_at book (at col) ≡ sum left right) (cells : Cells) where
+module _ (book : Book) (col left right : ℕ) (holds : content_at book (at col) ≡ sum left right) (cells : CellSet) where
   -- a sum reaches one of some cells where it is one, or one of the two cells that it reads reaches one
   sum_reaches : (k : ℕ) → reaches_in book cells (suc k) (at col) ≡ (cells (at col) || (reaches_in book cells k (at left) || reaches_in book cells k (at right)))
   sum_reaches k =
@@ -31,13 +31,13 @@ module _ (book : Book) (col left right : ℕ) (holds : content_at book (at col) 
       ∙ ap (λ b. cells (at col) || b) (without_falses (reached (at left)) (reached (at right)))
 
 -- a cell that is among some cells counts once
-one_more : (cells : Cells) (entry : Place × Content) (entries : List (Place × Content)) → cells entry.0 ≡ true → length (filter (λ other. cells other.0) (entry ∷ entries)) ≡ suc (length (filter (λ other. cells other.0) entries))
+one_more : (cells : CellSet) (entry : Place × Content) (entries : List (Place × Content)) → cells entry.0 ≡ true → length (filter (λ other. cells other.0) (entry ∷ entries)) ≡ suc (length (filter (λ other. cells other.0) entries))
 one_more cells entry entries is =
     let others : List (Place × Content) = filter (λ other. cells other.0) entries in
     ap (λ b. length (cond b (entry ∷ others) others)) is
 
 -- nothing is stale
-abbrev none : Cells
+abbrev none : CellSet
 none q = false
 
 -- the cell of that column is set to a whole number

@@ -1,7 +1,7 @@
 -- Worked examples of edits: cells of a small book that are set or cleared, and a book at the limit of its cells.
 use Rattle.std.proofs.Common.{◌≡◌, ◌*◌, ◌^◌, ℕ, pos, List, [], ◌∷◌, length, ap, nat_le, refl}
 use Rattle.std.specs.Prelude.{Ok, Err, if◌then◌else◌}
-use Rattle.calc_addr.specs.Cells.{Place, Rectangle}
+use Rattle.calc_addr.specs.Places.{Place, Rectangle}
 use Rattle.calc_model.specs.declared.value.Value.TheVariants.{Number}
 use Rattle.calc_model.specs.declared.content.Content.{Content}
 use Rattle.calc_model.specs.declared.content.Content.TheVariants.{Empty, Constant}

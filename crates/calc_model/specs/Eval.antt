@@ -2,7 +2,7 @@
 use Rattle.std.specs.Prelude.{pos, ◌&&◌, Bool, true, false, Option, Some, None, if◌then◌else◌}
 use Rattle.calc_num.specs.Decimals.{checked}
 use Rattle.std.specs.Prelude.{◌+ℤ◌}
-use Rattle.calc_addr.specs.Cells.{Place, Rectangle}
+use Rattle.calc_addr.specs.Places.{Place, Rectangle}
 use Rattle.calc_addr.specs.References.{here}
 use Rattle.calc_addr.specs.declared.reference.Span.{Span}
 use Rattle.calc_addr.specs.declared.reference.Span.TheVariants.{One}

@@ -4,7 +4,7 @@ use Rattle.std.specs.List.{find, starts_with}
 use Rattle.std.specs.Str.{bytes_eq}
 use Rattle.calc_model.specs.declared.fault.Fault.{Fault}
 use Rattle.calc_model.specs.declared.fault.Fault.TheVariants.{NA, DivZero, BadValue, BadRef, BadName, BadNum, Null, Over}
-use Rattle.calc_model.specs.Values.{fault_text}
+use Rattle.calc_model.specs.ValueTexts.{fault_text}
 
 -- the faults that have a constant
 abbrev pub error_constants : List Fault

@@ -1,7 +1,7 @@
 -- The law of what cells show: a formula that reaches no circle shows its value over what the cells
 -- that it reads show, and one that reaches a circle shows that.
 use Rattle.std.specs.Prelude.{◌≡◌, true, false}
-use Rattle.calc_addr.specs.Cells.{Place}
+use Rattle.calc_addr.specs.Places.{Place}
 use Rattle.calc_model.specs.declared.fault.Fault.TheVariants.{Circular}
 use Rattle.calc_model.specs.declared.value.Value.TheVariants.{Bad}
 use Rattle.calc_model.specs.declared.content.Content.TheVariants.{Formula}

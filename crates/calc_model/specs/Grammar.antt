@@ -20,7 +20,7 @@ use Rattle.calc_model.specs.declared.tree.Tree.{Tree}
 use Rattle.calc_model.specs.declared.tree.Tree.TheVariants as t
 use Rattle.calc_model.specs.Contents.{is_error_constant}
 use Rattle.calc_model.specs.Tokens.{are_blanks, is_identifier, is_name, quoted}
-use Rattle.calc_model.specs.Values.{fault_text}
+use Rattle.calc_model.specs.ValueTexts.{fault_text}
 
 -- how an infix operator is written
 abbrev pub op_text : Op → List ℕ

@@ -3,7 +3,7 @@
 -- more than the book has formulas reaches a circle.
 use Rattle.std.specs.Prelude.{ℕ, zero, suc, ◌+◌, Bool, not, List}
 use Rattle.std.specs.List.{list_all}
-use Rattle.calc_addr.specs.Cells.{Place, Rectangle, places}
+use Rattle.calc_addr.specs.Places.{Place, Rectangle, places}
 use Rattle.calc_model.specs.Books.{Book, content_at, is_formula, formula_count}
 use Rattle.calc_model.specs.Reads.{reads}
 

@@ -1,4 +1,4 @@
-pub mod Values
+pub mod ValueTexts
 pub mod Contents
 pub mod Books
 pub mod Reads

@@ -12,7 +12,7 @@ use Rattle.calc_model.specs.declared.content.Content.{Content}
 use Rattle.calc_model.specs.declared.content.Content.TheVariants.{Empty, Constant, Formula, Raw}
 use Rattle.calc_model.specs.Grammar.{op_text}
 use Rattle.calc_model.specs.Tokens.{quoted}
-use Rattle.calc_model.specs.Values.{fault_text, text_of}
+use Rattle.calc_model.specs.ValueTexts.{fault_text, text_of}
 
 -- the text of a node, from those of its children
 abbrev pub printed_step : Tree-F (List ℕ) → List ℕ

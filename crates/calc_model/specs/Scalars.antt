@@ -2,7 +2,7 @@
 use Rattle.std.specs.Prelude.{ℤ, pos, ◌==◌, ◌&&◌, Bool, Result, Ok, Err, if◌then◌else◌}
 use Rattle.calc_num.specs.declared.num.NumFault.{NumFault}
 use Rattle.calc_num.specs.declared.num.NumFault.TheVariants as faults
-use Rattle.calc_addr.specs.Cells.{Place, Rectangle, covers}
+use Rattle.calc_addr.specs.Places.{Place, Rectangle, covers}
 use Rattle.calc_model.specs.declared.fault.Fault.{Fault}
 use Rattle.calc_model.specs.declared.fault.Fault.TheVariants.{DivZero, BadValue, BadNum, Over}
 use Rattle.calc_model.specs.declared.value.Value.{Value}

@@ -4,55 +4,55 @@
 use Rattle.std.specs.Prelude.{◌≡◌, ℕ, zero, suc, ◌+◌, ◌&&◌, ◌||◌, Bool, true, false, List, length}
 use Rattle.std.specs.List.{filter, list_any}
 use Rattle.std.specs.Ordering.{eq_by_cmp}
-use Rattle.calc_addr.specs.Cells.{Place, Rectangle, covers, place_cmp, places}
+use Rattle.calc_addr.specs.Places.{Place, Rectangle, covers, place_cmp, places}
 use Rattle.calc_model.specs.declared.edit.Edit.{Edit}
 use Rattle.calc_model.specs.declared.edit.Edit.TheVariants.{Set, Clear}
 use Rattle.calc_model.specs.Books.{Book, content_at, is_formula, formula_count}
 use Rattle.calc_model.specs.Reads.{reads}
 
 -- some cells of all sheets, as a test
-abbrev pub Cells : Type 0
-Cells = Place → Bool
+abbrev pub CellSet : Type 0
+CellSet = Place → Bool
 
 -- the cells that an edit touches, changed or not: those that it sets or clears
-abbrev pub touched : Edit → Cells
+abbrev pub touched : Edit → CellSet
 touched (Set cell content) q = eq_by_cmp place_cmp cell q
 touched (Clear area) q = covers area q
 touched _ q = false
 
 -- whether a cell of these areas passes a test
-abbrev pub any_cell : Cells → List Rectangle → Bool
+abbrev pub any_cell : CellSet → List Rectangle → Bool
 any_cell passes areas = list_any (λ area. list_any passes (places area)) areas
 
 -- The cell reaches one of some cells in at most k steps of reading: it is one of them, or it reads a cell
 -- that reaches one in at most k - 1 steps.
-abbrev pub reaches_in : Book → Cells → ℕ → Cells
+abbrev pub reaches_in : Book → CellSet → ℕ → CellSet
 reaches_in book cells zero q = cells q
 reaches_in book cells (suc k) q = cells q || any_cell (reaches_in book cells k) (reads book q)
 
 -- A cell that reaches one at all does so in no more steps than the book has formulas.
-unfoldable pub reaches : Book → Cells → Cells
+unfoldable pub reaches : Book → CellSet → CellSet
 reaches book cells = reaches_in book cells (formula_count book + 1)
 
-abbrev pub is_formula_cell : Book → Cells
+abbrev pub is_formula_cell : Book → CellSet
 is_formula_cell book q = is_formula (content_at book q)
 
 -- the stale formulas of a book that an edit made, from those before it
-abbrev pub stale_after : Book → Edit → Cells → Cells
+abbrev pub stale_after : Book → Edit → CellSet → CellSet
 stale_after book edit stale q = is_formula_cell book q && (stale q || reaches book (touched edit) q)
 
 -- how many cells of the book are among these
-abbrev pub count_in : Book → Cells → ℕ
+abbrev pub count_in : Book → CellSet → ℕ
 count_in book cells = length (filter (λ entry. cells entry.0) book.cells)
 
 -- The cell reaches one of some cells by reading: it is one of them, or it reads a cell that does.
-pub data Reaches (book : Book) (cells : Cells) : Place → Type 0 where
+pub data Reaches (book : Book) (cells : CellSet) : Place → Type 0 where
   itself : {q : Place} → cells q ≡ true → Reaches book cells q
   by_reading : {q read : Place} → any_cell (eq_by_cmp place_cmp read) (reads book q) ≡ true → Reaches book cells read → Reaches book cells q
 
 -- The rounds of the definition suffice.
 abbrev pub ReachesAtAll : Type 0
-ReachesAtAll = (book : Book) (cells : Cells) (q : Place) → Reaches book cells q → reaches book cells q ≡ true
+ReachesAtAll = (book : Book) (cells : CellSet) (q : Place) → Reaches book cells q → reaches book cells q ≡ true
 
 abbrev pub ReachesIndeed : Type 0
-ReachesIndeed = (book : Book) (cells : Cells) (q : Place) → reaches book cells q ≡ true → Reaches book cells q
+ReachesIndeed = (book : Book) (cells : CellSet) (q : Place) → reaches book cells q ≡ true → Reaches book cells q

@@ -2,7 +2,7 @@
 -- that is empty; cells that are cleared hold nothing.
 use Rattle.std.specs.Prelude.{nat_le, not, List, length, Result, Ok, Err, if◌then◌else◌}
 use Rattle.std.specs.List.{filter}
-use Rattle.calc_addr.specs.Cells.{Place, Rectangle, covers}
+use Rattle.calc_addr.specs.Places.{Place, Rectangle, covers}
 use Rattle.calc_model.specs.declared.content.Content.{Content}
 use Rattle.calc_model.specs.declared.edit.Edit.{Edit}
 use Rattle.calc_model.specs.declared.edit.Edit.TheVariants.{Set, Clear}

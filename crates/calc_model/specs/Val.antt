@@ -2,7 +2,7 @@
 -- hold no formula, as many rounds as there are formulas and one more. A cell that reaches a circle of
 -- reading shows that, and nothing else of its formula counts.
 use Rattle.std.specs.Prelude.{ℕ, zero, suc, ◌+◌, Bool, true, if◌then◌else◌}
-use Rattle.calc_addr.specs.Cells.{Place}
+use Rattle.calc_addr.specs.Places.{Place}
 use Rattle.calc_model.specs.declared.fault.Fault.TheVariants.{Syntax, Circular}
 use Rattle.calc_model.specs.declared.value.Value.{Value}
 use Rattle.calc_model.specs.declared.value.Value.TheVariants.{Bad, Blank}

@@ -1,5 +1,5 @@
 ghost use Rattle.std.specs.Prelude.{◌≡◌, ◌++◌, OnOk, OnErr};
-ghost use Rattle.calc_model.specs.Values.{fault_text};
+ghost use Rattle.calc_model.specs.ValueTexts.{fault_text};
 
 use calc_addr::NoMemory;
 

@@ -1,6 +1,6 @@
 ghost use Rattle.std.specs.Prelude.{◌≡◌, ◌++◌, IfOk, OnOk, OnErr};
 ghost use Rattle.calc_model.specs.Scalars.{number_of};
-ghost use Rattle.calc_model.specs.Values.{lent, text_of};
+ghost use Rattle.calc_model.specs.ValueTexts.{lent, text_of};
 
 use crate::fault::Fault;
 use crate::text::Text;

@@ -2,7 +2,7 @@
 use Rattle.std.proofs.Common.{◌≡◌, ◌*◌, ◌^◌, ℕ, pos, List, [], ◌∷◌, ◌++◌, codes, refl}
 use lib.Utf8.{encode}
 use Rattle.std.specs.Str.{is_utf8, chars}
-use Rattle.calc_addr.specs.Cells.{Place, Rectangle}
+use Rattle.calc_addr.specs.Places.{Place, Rectangle}
 use Rattle.calc_model.specs.declared.value.Value.TheVariants.{Number, Words}
 use Rattle.calc_model.specs.declared.content.Content.TheVariants.{Constant}
 use Rattle.calc_model.specs.declared.edit.Edit.TheVariants.{Set, Clear}

@@ -3,7 +3,7 @@
 -- must lie in the sheets, and then it must not print more cells than a line may.
 use Rattle.std.specs.Prelude.{ℕ, ◌==◌, nat_le, List, [], ◌∷◌, length, codes, Result, Ok, Err, if◌then◌else◌}
 use Rattle.std.specs.Str.{bytes_eq, is_utf8}
-use Rattle.calc_addr.specs.Cells.{Rectangle, cell_count}
+use Rattle.calc_addr.specs.Places.{Rectangle, cell_count}
 use Rattle.calc_addr.specs.Spelling.{spelled_area, spelled_cell}
 use Rattle.calc_addr.specs.declared.read.Spelled.{Spelled}
 use Rattle.calc_addr.specs.declared.read.Spelled.TheVariants.{Is, Outside, Not}

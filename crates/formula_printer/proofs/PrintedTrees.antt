@@ -12,7 +12,7 @@ use Rattle.calc_model.specs.declared.tree.Tree.TheVariants as t
 use Rattle.calc_model.specs.Grammar.{op_text}
 use Rattle.calc_model.specs.Printed.{printed_step, printed_tree}
 use Rattle.calc_model.specs.Tokens.{quoted}
-use Rattle.calc_model.specs.Values.{fault_text}
+use Rattle.calc_model.specs.ValueTexts.{fault_text}
 use Rattle.calc_model.proofs.TreeFolds as fold
 
 pub printed_tree-Number : (n : ℤ) → printed_tree (t.Number n) ≡ printed n

@@ -12,7 +12,7 @@ use Rattle.calc_model.specs.Formed.{Form, form_of, form_step, is_at, is_well_for
 use Rattle.calc_model.specs.Grammar.{op_row, op_text, IsRow, Spells, error, name, short, string}
 use Rattle.calc_model.specs.Printed.{printed_tree}
 use Rattle.calc_model.specs.Tokens.{has_no_small_letter, is_identifier, quoted}
-use Rattle.calc_model.specs.Values.{fault_text}
+use Rattle.calc_model.specs.ValueTexts.{fault_text}
 use Rattle.calc_model.proofs.TreeFolds as fold
 use Rattle.calc_model.proofs.TreeInduction.{tree_ind}
 use Rattle.formula_printer.proofs.PrintedOperands.{in_capitals-same, printed_bracket, printed_number, row_of_operand}

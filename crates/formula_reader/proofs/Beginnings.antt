@@ -11,7 +11,7 @@ use Rattle.calc_num.specs.Spelling.{Unsigned, behind_digits, fraction_digits, fr
 use Rattle.calc_model.specs.Contents.{is_error_constant}
 use Rattle.calc_model.specs.Grammar.{AreSomeArgs, IsOperand, IsPrimary, IsRow, call, error, is_signed, large_number, lower, minus, more, name, number, one, op_text, operand, operated, parenthesis, percent, plus, primary, reference, string}
 use Rattle.calc_model.specs.Tokens.{are_blanks, begins_identifier, has_identifier_bytes, is_blank, is_identifier, is_in_identifier}
-use Rattle.calc_model.specs.Values.{fault_text}
+use Rattle.calc_model.specs.ValueTexts.{fault_text}
 use Rattle.calc_model.specs.declared.fault.Fault.{Fault}
 use Rattle.calc_model.specs.declared.fault.Fault.TheVariants.{NA, DivZero, BadValue, BadRef, BadName, BadNum, Null, Over, Syntax, Circular}
 use Rattle.calc_model.specs.declared.tree.Tree.{Tree}

@@ -18,7 +18,7 @@ use Rattle.calc_model.specs.Contents.{is_error_constant}
 use Rattle.calc_model.specs.Fields.{error_constants}
 use Rattle.calc_model.specs.Grammar.{IsOperand, error, is_signed, large_number, number, reference, string}
 use Rattle.calc_model.specs.Tokens.{doubled, quoted}
-use Rattle.calc_model.specs.Values.{fault_text}
+use Rattle.calc_model.specs.ValueTexts.{fault_text}
 use Rattle.calc_model.specs.declared.fault.Fault.{Fault}
 use Rattle.calc_model.specs.declared.fault.Fault.TheVariants.{Over}
 use Rattle.calc_model.specs.declared.tree.Tree.{Tree}

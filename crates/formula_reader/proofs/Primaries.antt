@@ -8,7 +8,7 @@ use Rattle.std.proofs.lemmas.Bool.Decides.{nat_tests}
 use Rattle.calc_num.specs.Spelling.{reading}
 use Rattle.calc_model.specs.Grammar.{IsOperand, is_signed, error, large_number, name, number, reference, string}
 use Rattle.calc_model.specs.Tokens.{are_blanks, begins_identifier, is_blank, is_identifier, is_in_identifier, is_name, quoted}
-use Rattle.calc_model.specs.Values.{fault_text}
+use Rattle.calc_model.specs.ValueTexts.{fault_text}
 use Rattle.calc_model.specs.Contents.{is_error_constant}
 use Rattle.calc_model.specs.declared.fault.Fault.{Fault}
 use Rattle.calc_model.specs.declared.fault.Fault.TheVariants.{NA, DivZero, BadValue, BadRef, BadName, BadNum, Null, Over, Syntax, Circular}

@@ -1,7 +1,7 @@
 -- The cells of an area are known where those entries of a map are that the area covers.
 use Rattle.std.proofs.Common.{◌≡◌, Bool, true, false, not, ◌||◌, ◌&&◌, List, [], ◌∷◌, refl, sym}
 use Rattle.std.specs.List.{list_all}
-use Rattle.calc_addr.specs.Cells.{Place, Rectangle, covers, places}
+use Rattle.calc_addr.specs.Places.{Place, Rectangle, covers, places}
 use Rattle.calc_model.specs.declared.content.Content.{Content}
 use Rattle.calc_model.specs.Books.{content_at}
 use Rattle.calc_model.specs.Results.{Results, is_known}

@@ -1,6 +1,6 @@
 -- A formula of a book without names is ready where the cells of its areas are known.
 use Rattle.std.proofs.Common.{◌≡◌, List, [], ◌++◌, sym, ap, ◌∙◌}
-use Rattle.calc_addr.specs.Cells.{Place, Rectangle}
+use Rattle.calc_addr.specs.Places.{Place, Rectangle}
 use Rattle.calc_model.specs.declared.content.Content.{Content}
 use Rattle.calc_model.specs.declared.tree.Tree.{Tree}
 use Rattle.calc_model.specs.Grounded.{all_cells}

@@ -7,7 +7,7 @@ use Rattle.std.specs.Ordering.{eq_by_cmp, is_eq}
 use Rattle.std.proofs.lemmas.Cmp.{tied_itself}
 use Rattle.std.proofs.lemmas.List.Filters.{length-filter_both}
 use Rattle.std.specs.FinMap.Entries.{find}
-use Rattle.calc_addr.specs.Cells.{Place, place_cmp}
+use Rattle.calc_addr.specs.Places.{Place, place_cmp}
 use Rattle.calc_addr.proofs.Order.{place_cmp_total}
 use Rattle.calc_model.specs.declared.value.Value.{Value}
 use Rattle.calc_model.specs.declared.content.Content.{Content}

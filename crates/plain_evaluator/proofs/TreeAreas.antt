@@ -1,7 +1,7 @@
 -- The areas that a formula reads in a book without names, at each kind of node.
 use Rattle.std.proofs.Common.{◌≡◌, ℕ, ℤ, List, [], ◌∷◌, ◌++◌, map, refl, ap, ◌∙◌}
 use Rattle.std.specs.List.{flat_map}
-use Rattle.calc_addr.specs.Cells.{Place, Rectangle}
+use Rattle.calc_addr.specs.Places.{Place, Rectangle}
 use Rattle.calc_addr.specs.References.{Reference, here}
 use Rattle.calc_model.specs.declared.content.Content.{Content}
 use Rattle.calc_model.specs.declared.fault.Fault.{Fault}

@@ -2,7 +2,7 @@
 use Rattle.std.specs.Prelude.{ℕ, ℤ, ◌+ℤ◌, Bool, ◌||◌, not, List, [], length, Result}
 use Rattle.std.specs.List.{filter}
 use Rattle.std.specs.FinMap.Entries.{find}
-use Rattle.calc_addr.specs.Cells.{Place, place_cmp}
+use Rattle.calc_addr.specs.Places.{Place, place_cmp}
 use Rattle.calc_model.specs.declared.content.Content.{Content}
 use Rattle.calc_model.specs.declared.value.Value.{Value}
 use Rattle.calc_num.specs.Decimals.{checked}

@@ -1,6 +1,6 @@
 ghost use Rattle.std.specs.Prelude.{◌≡◌};
 ghost use Rattle.std.specs.List.{list_all};
-ghost use Rattle.calc_addr.specs.Cells.{covers, places};
+ghost use Rattle.calc_addr.specs.Places.{covers, places};
 ghost use Rattle.calc_model.specs.Grounded.{all_cells};
 ghost use Rattle.calc_model.specs.Results.{is_known};
 ghost use Rattle.plain_evaluator.specs.Plain.{book_of, results_of};

@@ -1,7 +1,7 @@
 ghost use Rattle.std.specs.Prelude.{◌≡◌, ◌++◌, unwrap_or, OnOk, OnErr};
 ghost use Rattle.std.specs.Option.{option_copied};
 ghost use Rattle.calc_model.specs.Books.{content_at, with_content};
-ghost use Rattle.calc_model.specs.Values.{text_of};
+ghost use Rattle.calc_model.specs.ValueTexts.{text_of};
 ghost use Rattle.calc_model.specs.Results.{shown_by};
 ghost use Rattle.plain_evaluator.specs.Plain.{book_of, results_of};
 

@@ -7,7 +7,7 @@ use Rattle.std.specs.FinMap.Entries.{find}
 use Rattle.std.specs.declared.cmp.Ordering.TheVariants.{Less, Equal, Greater}
 use Rattle.std.proofs.lemmas.Bool.{both_ways, cond-false, false_from_ne_true}
 use Rattle.std.proofs.lemmas.Map.Entries.{lookup-filter-keys}
-use Rattle.calc_addr.specs.Cells.{Place, Rectangle, covers, place_cmp}
+use Rattle.calc_addr.specs.Places.{Place, Rectangle, covers, place_cmp}
 use Rattle.calc_model.specs.declared.content.Content.{Content}
 use Rattle.calc_model.specs.declared.content.Content.TheVariants.{Empty}
 use Rattle.calc_model.specs.declared.edit.Edit.TheVariants.{Clear, Set}

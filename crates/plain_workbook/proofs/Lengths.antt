@@ -10,7 +10,7 @@ use Rattle.std.proofs.lemmas.Map.{lookup-none}
 use Rattle.std.proofs.lemmas.Map.Entries.{none_below_head}
 use Rattle.std.specs.Ordering.{match_ordering}
 use Rattle.std.specs.Map.{keys_of}
-use Rattle.calc_addr.specs.Cells.{Place, place_cmp}
+use Rattle.calc_addr.specs.Places.{Place, place_cmp}
 use Rattle.calc_model.specs.declared.content.Content.{Content}
 use Rattle.calc_model.specs.Books.{is_held, with_content}
 

@@ -5,13 +5,13 @@ use Rattle.std.proofs.lemmas.Bool.{and_from, ltb-false, ltb-true, and_parts}
 use Rattle.std.specs.List.{list_all}
 use Rattle.std.specs.Ordering.{eq_by_cmp}
 use Rattle.std.proofs.lemmas.List.Filters.{length-filter_both}
-use Rattle.calc_addr.specs.Cells.{Place, Rectangle, place_cmp}
+use Rattle.calc_addr.specs.Places.{Place, Rectangle, place_cmp}
 use Rattle.calc_model.specs.declared.content.Content.{Content}
 use Rattle.calc_model.specs.declared.content.Content.TheVariants.{Empty, Constant, Formula, Raw}
 use Rattle.calc_model.specs.declared.tree.Tree.{Tree}
 use Rattle.calc_model.specs.Books.{Book, area_named, content_at, is_formula}
 use Rattle.calc_model.specs.Reads.{areas, content_areas, reads}
-use Rattle.calc_model.specs.Stale.{Cells, Reaches, any_cell, is_formula_cell, reaches}
+use Rattle.calc_model.specs.Stale.{CellSet, Reaches, any_cell, is_formula_cell, reaches}
 use Rattle.calc_model.proofs.Counting.{count, same_where_counted}
 use Rattle.calc_model.proofs.Places.{same_places}
 use Rattle.calc_model.proofs.Reached.{either, or_first, or_second, reaches_at_all, reaches_indeed, reads_passing, some_cell, same_cell}
@@ -32,7 +32,7 @@ a_formula Empty h = cc
 a_formula (Constant v) h = cc
 a_formula (Raw t) h = cc
 
-module _ (book : Book) (touched : Cells) where
+module _ (book : Book) (touched : CellSet) where
   pub none_found : IsFound book touched []
   none_found = record { formula = λ q h. cc; reached = λ q h. cc }
 
@@ -111,14 +111,14 @@ module _ (book : Book) (touched : Cells) where
       settled_due (is_formula_cell book q) (contains_cell found q) (is_due book touched found q) (settled q is) is due
 
 -- a map of which each entry is settled
-pub closed : (cells : List (Place × Content)) (touched : Cells) (found : List Place) → list_all (λ entry. is_settled (book_of cells) touched found entry.0) cells ≡ true → IsClosed (book_of cells) touched found
+pub closed : (cells : List (Place × Content)) (touched : CellSet) (found : List Place) → list_all (λ entry. is_settled (book_of cells) touched found entry.0) cells ≡ true → IsClosed (book_of cells) touched found
 closed cells touched found all =
     settled_closed (book_of cells) touched found (λ q is.
     let formula = a_formula (content_at (book_of cells) q) is in
     let entry = found_entry cells q formula.0 formula.1 in
     list_all-find (is_settled (book_of cells) touched found) cells q entry.0 all entry.1)
 
-module _ (cells : List (Place × Content)) (touched : Cells) (found : List Place) (cell : Place) where
+module _ (cells : List (Place × Content)) (touched : CellSet) (found : List Place) (cell : Place) where
   pub settled_constant : is_formula_cell (book_of cells) cell ≡ false → is_settled (book_of cells) touched found cell ≡ true
   settled_constant h = ap (λ f. (not f || contains_cell found cell) || not (is_due (book_of cells) touched found cell)) h
 
@@ -129,7 +129,7 @@ module _ (cells : List (Place × Content)) (touched : Cells) (found : List Place
   settled_undue h = or_second (not (is_formula_cell (book_of cells) cell) || contains_cell found cell) (not (is_due (book_of cells) touched found cell)) (ap not h)
 
 -- what a formula of a book without names reads, as the areas that were gathered of it
-pub due_by_areas : (cells : List (Place × Content)) (touched : Cells) (found : List Place) (cell : Place) (content : Content) (tree written : Tree) (before read : List Rectangle) → content_at (book_of cells) cell ≡ content → content ≡ Formula tree → written ≡ tree → before ≡ [] → read ≡ before ++ areas cell no_names written → is_due (book_of cells) touched found cell ≡ (touched cell || any_cell (marked touched found) read)
+pub due_by_areas : (cells : List (Place × Content)) (touched : CellSet) (found : List Place) (cell : Place) (content : Content) (tree written : Tree) (before read : List Rectangle) → content_at (book_of cells) cell ≡ content → content ≡ Formula tree → written ≡ tree → before ≡ [] → read ≡ before ++ areas cell no_names written → is_due (book_of cells) touched found cell ≡ (touched cell || any_cell (marked touched found) read)
 unfolding is_due
 due_by_areas cells touched found cell content tree written before read at is same none read_is =
     ap (λ x. touched cell || any_cell (marked touched found) (content_areas cell (area_named (book_of cells)) x)) (at ∙ is)

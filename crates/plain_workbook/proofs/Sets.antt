@@ -3,7 +3,7 @@ use Rattle.std.proofs.Common.{◌≡◌, ◌&&◌, max, Bool, true, false, not, 
 use Rattle.std.proofs.lemmas.Bool.{or_parts}
 use Rattle.std.specs.List.{list_all, list_any}
 use Rattle.std.specs.Ordering.{eq_by_cmp}
-use Rattle.calc_addr.specs.Cells.{Place, Rectangle, covers, place_cmp, places}
+use Rattle.calc_addr.specs.Places.{Place, Rectangle, covers, place_cmp, places}
 use Rattle.calc_model.proofs.Areas.{Inside, all_places, both_true, covered, inside, places_all}
 use Rattle.calc_model.proofs.Places.{same_places}
 use Rattle.calc_model.proofs.Reached.{either, or_first, or_second, or_true, same_cell, some_item}

@@ -3,13 +3,13 @@ use Rattle.std.proofs.Common.{◌≡◌, Bool, true, false, ◌||◌, ◌&&◌, 
 use Rattle.std.specs.List.{filter}
 use Rattle.std.specs.Ordering.{eq_by_cmp}
 use Rattle.std.proofs.lemmas.Bool.{false_from_ne_true, and_from, and_parts}
-use Rattle.calc_addr.specs.Cells.{Place, Rectangle, place_cmp}
+use Rattle.calc_addr.specs.Places.{Place, Rectangle, place_cmp}
 use Rattle.calc_model.specs.declared.content.Content.{Content}
 use Rattle.calc_model.specs.declared.edit.Edit.{Edit}
 use Rattle.calc_model.specs.declared.edit.Edit.TheVariants.{Clear, Copy, DeleteRows, Fill, InsertRows, Make, Name, Set, Unname}
 use Rattle.calc_model.specs.Books.{Book, area_named, content_at, is_formula}
 use Rattle.calc_model.specs.Reads.{content_areas, reads}
-use Rattle.calc_model.specs.Stale.{Cells, Reaches, any_cell, count_in, is_formula_cell, reaches, stale_after, touched}
+use Rattle.calc_model.specs.Stale.{CellSet, Reaches, any_cell, count_in, is_formula_cell, reaches, stale_after, touched}
 use Rattle.calc_model.proofs.Reached.{either, or_first, or_second, reaches_at_all, reaches_indeed}
 use Rattle.plain_evaluator.specs.Plain.{book_of}
 use Rattle.plain_evaluator.proofs.Covered.{same_tests}
@@ -19,7 +19,7 @@ use Rattle.plain_workbook.specs.Touched.{contains_cell, is_touched}
 use Rattle.plain_workbook.specs.Workbook.{State, stale_of}
 
 -- a book changes at some cells at most, and these join those that were touched before
-module _ (before after : List (Place × Content)) (old edited all : Cells) (same : (q : Place) → edited q ≡ false → content_at (book_of after) q ≡ content_at (book_of before) q) (joined : (q : Place) → all q ≡ (old q || edited q)) where
+module _ (before after : List (Place × Content)) (old edited all : CellSet) (same : (q : Place) → edited q ≡ false → content_at (book_of after) q ≡ content_at (book_of before) q) (joined : (q : Place) → all q ≡ (old q || edited q)) where
   same_reads : (q : Place) → edited q ≡ false → reads (book_of after) q ≡ reads (book_of before) q
   same_reads q apart =
       ap (λ names. content_areas q names (content_at (book_of after) q)) (no_name_is_defined after ∙ sym (no_name_is_defined before))
@@ -61,7 +61,7 @@ module _ (before after : List (Place × Content)) (old edited all : Cells) (same
         | inr now ↦ inr (Reaches.by_reading reads_it now)
       ]
 
-  abbrev stale_before : Cells
+  abbrev stale_before : CellSet
   stale_before q = is_formula_cell (book_of before) q && reaches (book_of before) old q
 
   to_edit : (q : Place) → is_formula_cell (book_of after) q ≡ true → reaches (book_of after) all q ≡ true → (stale_before q || reaches (book_of after) edited q) ≡ true
@@ -88,11 +88,11 @@ module _ (before after : List (Place × Content)) (old edited all : Cells) (same
       (λ h. and_from _ _ (and_parts _ _ h).0 (from_edit q (and_parts _ _ h).1))
 
 -- no cell reaches one of none
-none_reached : (book : Book) (cells : Cells) → ((q : Place) → cells q ≡ false) → (q : Place) → Reaches book cells q → ⊥
+none_reached : (book : Book) (cells : CellSet) → ((q : Place) → cells q ≡ false) → (q : Place) → Reaches book cells q → ⊥
 none_reached book cells none q (Reaches.itself is) = let no : cells q ≡ false = none q in cc
 none_reached book cells none q (Reaches.by_reading {read = read} reads_it reached) = none_reached book cells none read reached
 
-pub reaches_none : (book : Book) (cells : Cells) → ((q : Place) → cells q ≡ false) → (q : Place) → reaches book cells q ≡ false
+pub reaches_none : (book : Book) (cells : CellSet) → ((q : Place) → cells q ≡ false) → (q : Place) → reaches book cells q ≡ false
 reaches_none book cells none q = false_from_ne_true _ (λ h. none_reached book cells none q (reaches_indeed book cells q h))
 
 -- a workbook whose cells changed where an edit touches them, and which keeps what was touched

@@ -2,7 +2,7 @@
 use Rattle.std.specs.Prelude.{◌||◌, Bool, List}
 use Rattle.std.specs.List.{list_any}
 use Rattle.std.specs.Ordering.{eq_by_cmp}
-use Rattle.calc_addr.specs.Cells.{Place, Rectangle, covers, place_cmp}
+use Rattle.calc_addr.specs.Places.{Place, Rectangle, covers, place_cmp}
 
 pub record Parts : Type 0 where
   pub all : Bool

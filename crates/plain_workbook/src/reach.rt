@@ -1,7 +1,7 @@
 //! The formulas that reach a touched cell by reading.
 ghost use Rattle.std.specs.Prelude.{◌≡◌, ◌<◌, ◌&&◌, ◌||◌, List, true, false, IfOk, OnOk};
 ghost use Rattle.std.specs.List.{list_any};
-ghost use Rattle.calc_addr.specs.Cells.{Place, places};
+ghost use Rattle.calc_addr.specs.Places.{Place, places};
 ghost use Rattle.calc_model.specs.declared.content.Content.{Content};
 ghost use Rattle.calc_model.specs.Books.{content_at};
 ghost use Rattle.calc_model.specs.Stale.{any_cell, is_formula_cell, reaches};

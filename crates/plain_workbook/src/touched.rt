@@ -2,7 +2,7 @@
 ghost use Rattle.std.specs.Prelude.{◌≡◌, ◌||◌, true, false, OnOk};
 ghost use Rattle.std.specs.List.{list_any};
 ghost use Rattle.std.specs.Ordering.{eq_by_cmp};
-ghost use Rattle.calc_addr.specs.Cells.{Place, covers, place_cmp, places};
+ghost use Rattle.calc_addr.specs.Places.{Place, covers, place_cmp, places};
 ghost use Rattle.plain_workbook.specs.Touched.{contains_cell, is_touched};
 
 use calc_addr::{Area, Cell, NoMemory};

@@ -1,6 +1,6 @@
 //! A workbook as a plain map of cells.
 ghost use Rattle.std.specs.Prelude.{◌≡◌, IfOk, IsErrOf, OnOk, OnErr, false};
-ghost use Rattle.calc_addr.specs.Cells.{Place};
+ghost use Rattle.calc_addr.specs.Places.{Place};
 ghost use Rattle.calc_model.specs.Results.{ShowsAll};
 ghost use Rattle.calc_model.specs.Stale.{count_in, is_formula_cell, stale_after};
 ghost use Rattle.calc_model.specs.Step.{Cause, step};

@@ -1,6 +1,6 @@
 use Rattle.std.proofs.Common.{◌≡◌, ◌++◌, ℕ, List}
 use Rattle.std.specs.List.{flat_map}
-use Rattle.calc_addr.specs.Cells.{Rectangle, rows_of}
+use Rattle.calc_addr.specs.Places.{Rectangle, rows_of}
 use Rattle.calc_cli.specs.Records.{row_texts, record_text, Holds}
 use Rattle.calc_cli.proofs.print.print_area.Given as goal
 

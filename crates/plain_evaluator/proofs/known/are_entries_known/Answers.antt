@@ -1,6 +1,6 @@
 use Rattle.std.proofs.Common.{◌≡◌, false, sym, ap, ◌∙◌}
 use Rattle.std.specs.List.{list_all}
-use Rattle.calc_addr.specs.Cells.{covers}
+use Rattle.calc_addr.specs.Places.{covers}
 use Rattle.calc_model.specs.Results.{is_known}
 use Rattle.plain_evaluator.specs.Plain.{book_of, results_of}
 use Rattle.plain_evaluator.proofs.Covered.{is_covered_known, entries_known, fails_first}

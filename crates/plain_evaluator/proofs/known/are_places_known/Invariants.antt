@@ -1,6 +1,6 @@
 use Rattle.std.proofs.Common.{◌≡◌}
 use Rattle.std.specs.List.{list_all}
-use Rattle.calc_addr.specs.Cells.{places}
+use Rattle.calc_addr.specs.Places.{places}
 use Rattle.calc_model.specs.Results.{is_known}
 use Rattle.plain_evaluator.specs.Plain.{book_of, results_of}
 use Rattle.plain_evaluator.proofs.known.are_places_known.Given as goal

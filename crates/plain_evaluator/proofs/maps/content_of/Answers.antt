@@ -1,5 +1,5 @@
 use Rattle.std.proofs.Common.{sym, ap, ◌∙◌, unwrap_or}
-use Rattle.calc_addr.specs.Cells.{place_cmp}
+use Rattle.calc_addr.specs.Places.{place_cmp}
 use Rattle.calc_model.specs.Books.{content_at}
 use Rattle.calc_model.specs.declared.content.Content.TheVariants.{Empty}
 use Rattle.plain_evaluator.proofs.Lookups.{find-lookup}

@@ -1,5 +1,5 @@
 use Rattle.std.proofs.Common.{sym, ◌∙◌}
-use Rattle.calc_addr.specs.Cells.{place_cmp}
+use Rattle.calc_addr.specs.Places.{place_cmp}
 use Rattle.plain_evaluator.specs.Plain.{results_of}
 use Rattle.plain_evaluator.proofs.Lookups.{find-lookup}
 use Rattle.plain_evaluator.proofs.maps.result_of.Goals as goal

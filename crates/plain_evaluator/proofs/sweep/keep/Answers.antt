@@ -1,6 +1,6 @@
 use Rattle.std.proofs.Common.{sym, ap, ◌∙◌, Some, cond}
 use Rattle.std.specs.Ordering.{eq_by_cmp}
-use Rattle.calc_addr.specs.Cells.{place_cmp}
+use Rattle.calc_addr.specs.Places.{place_cmp}
 use Rattle.plain_evaluator.specs.Plain.{results_of}
 use Rattle.plain_evaluator.proofs.Lookups.{find-lookup}
 use Rattle.plain_evaluator.proofs.sweep.keep.Goals as goal

@@ -1,6 +1,6 @@
 use Rattle.std.proofs.Common.{not, rules}
 use Rattle.std.proofs.lemmas.Map.Made.{filter_same_pairs}
-use Rattle.calc_addr.specs.Cells.{covers}
+use Rattle.calc_addr.specs.Places.{covers}
 use Rattle.plain_workbook.proofs.map.clear_area.Goals as goal
 
 pub returns : goal.returns

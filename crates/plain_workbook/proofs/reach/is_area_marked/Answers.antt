@@ -1,6 +1,6 @@
 use Rattle.std.proofs.Common.{◌||◌, sym, ap, ◌∙◌}
 use Rattle.std.specs.List.{list_any}
-use Rattle.calc_addr.specs.Cells.{places}
+use Rattle.calc_addr.specs.Places.{places}
 use Rattle.plain_workbook.specs.Touched.{contains_cell, is_touched}
 use Rattle.plain_workbook.proofs.Sets.{list_any-or}
 use Rattle.plain_workbook.proofs.reach.is_area_marked.Goals as goal

@@ -1,6 +1,6 @@
 use Rattle.std.proofs.Common.{◌≡◌}
 use Rattle.std.specs.List.{list_any}
-use Rattle.calc_addr.specs.Cells.{places}
+use Rattle.calc_addr.specs.Places.{places}
 use Rattle.plain_workbook.specs.Touched.{contains_cell}
 use Rattle.plain_workbook.proofs.touched.has_any_of.Given as goal
 

@@ -1,6 +1,6 @@
 use Rattle.std.proofs.Common.{◌≡◌, true, sym, ap, ◌∙◌}
 use Rattle.std.specs.List.{list_any}
-use Rattle.calc_addr.specs.Cells.{covers}
+use Rattle.calc_addr.specs.Places.{covers}
 use Rattle.calc_model.proofs.Reached.{or_first}
 use Rattle.plain_workbook.proofs.Sets.{any_covered}
 use Rattle.plain_workbook.proofs.touched.is_any_covered.Goals as goal

@@ -1,6 +1,6 @@
 use Rattle.std.proofs.Common.{◌≡◌}
 use Rattle.std.specs.List.{list_any}
-use Rattle.calc_addr.specs.Cells.{covers}
+use Rattle.calc_addr.specs.Places.{covers}
 use Rattle.plain_workbook.proofs.touched.is_any_covered.Given as goal
 
 -- no cell so far is covered

@@ -1,5 +1,5 @@
 use Rattle.std.proofs.Common.{◌≡◌, true, subst}
-use Rattle.calc_addr.specs.Cells.{covers}
+use Rattle.calc_addr.specs.Places.{covers}
 use Rattle.calc_addr.proofs.Walking.{places_from-corner}
 use Rattle.calc_addr.proofs.cell.Area.cells.Goals as goal
 

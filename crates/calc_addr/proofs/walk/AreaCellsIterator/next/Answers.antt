@@ -1,5 +1,5 @@
 use Rattle.std.proofs.Common.{◌≡◌, ◌∷◌, rules}
-use Rattle.calc_addr.specs.Cells.{places_from}
+use Rattle.calc_addr.specs.Places.{places_from}
 use Rattle.calc_addr.proofs.Walking.{walk-step}
 use Rattle.calc_addr.proofs.walk.AreaCellsIterator.next.Goals as goal
 

@@ -1,7 +1,7 @@
 use Rattle.std.proofs.Common.{◌||◌, ap, ◌∙◌}
 use Rattle.std.specs.List.{list_any}
 use Rattle.std.specs.Ordering.{eq_by_cmp}
-use Rattle.calc_addr.specs.Cells.{covers, place_cmp}
+use Rattle.calc_addr.specs.Places.{covers, place_cmp}
 use Rattle.plain_workbook.specs.Touched.{contains_cell, is_touched}
 use Rattle.plain_workbook.proofs.Sets.{one_more_cell}
 use Rattle.plain_workbook.proofs.touched.Touched.add_cell.Goals as goal

@@ -1,6 +1,6 @@
 use Rattle.std.proofs.Common.{◌||◌, sym, ap, ◌∙◌}
 use Rattle.std.specs.List.{list_any}
-use Rattle.calc_addr.specs.Cells.{covers, places}
+use Rattle.calc_addr.specs.Places.{covers, places}
 use Rattle.plain_workbook.specs.Touched.{is_touched}
 use Rattle.plain_workbook.proofs.Sets.{any_place, touched_beside}
 use Rattle.plain_workbook.proofs.touched.Touched.has_cell_in.Goals as goal

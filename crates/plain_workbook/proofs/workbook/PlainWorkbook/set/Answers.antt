@@ -1,5 +1,5 @@
 use Rattle.std.proofs.Common.{◌≡◌, ap, subst, ◌∙◌}
-use Rattle.calc_addr.specs.Cells.{Place}
+use Rattle.calc_addr.specs.Places.{Place}
 use Rattle.calc_model.specs.declared.edit.Edit.TheVariants.{Set}
 use Rattle.calc_model.specs.Books.{content_at, with_content}
 use Rattle.calc_model.specs.Stale.{stale_after}
