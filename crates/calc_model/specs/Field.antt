@@ -29,3 +29,7 @@ pub data IsField : List ℕ → Content → Type 0 where
   too_large : (text : List ℕ) → length text ≤ 65535 → begins_formula text ≡ false → reading text ≡ readings.TooLarge → IsField text (Constant (Bad Over))
   error : (text : List ℕ) (fault : Fault) → length text ≤ 65535 → begins_formula text ≡ false → reading text ≡ readings.NotNumber → error_of text ≡ Some fault → IsField text (Constant (Bad fault))
   words : (text : List ℕ) → 0 < length text → length text ≤ 65535 → begins_formula text ≡ false → reading text ≡ readings.NotNumber → error_of text ≡ None → IsField text (Constant (Words text))
+
+-- a meaning of fields: what each text holds as a field
+abbrev pub ReadsFields : (List ℕ → Content) → Type 0
+ReadsFields field = (text : List ℕ) → IsField text (field text)

@@ -2,10 +2,9 @@
 #![tactic(auto)]
 
 mod command;
-mod cut;
 mod read;
 mod words;
 
+pub use byte_cuts::{TextLines as ScriptLines, lines};
 pub use command::{Cause, Command, Line};
-pub use cut::{ScriptLines, lines};
-pub use read::read_line;
+pub use read::{MOST_PRINTED, read_line};
