@@ -1,7 +1,7 @@
 -- A formula's value depends on the values of the cells that it reads, and on no others.
-use Rattle.std.proofs.Common.{◌≡◌, Bool, true, false, ◌&&◌, List, [], ◌∷◌, ◌++◌, refl, sym, ap, subst, ◌∙◌, cond, arith, Some}
-use Rattle.std.specs.List.{AllByRecursion}
-use Rattle.calc_addr.specs.Places.{Place, Rectangle, covers}
+use Rattle.std.proofs.Common.{◌≡◌, Bool, true, false, ◌&&◌, List, [], ◌∷◌, ◌++◌, refl, sym, ap, subst, ◌∙◌, cond, arith, map, Some}
+use Rattle.std.specs.List.{AllByRecursion, list_all}
+use Rattle.calc_addr.specs.Places.{Place, Rectangle, covers, places}
 use Rattle.calc_addr.specs.References.{here}
 use Rattle.calc_model.specs.declared.value.Value.TheVariants.{Bad}
 use Rattle.calc_model.specs.declared.fault.Fault.TheVariants.{BadValue, Syntax}
@@ -12,7 +12,8 @@ use Rattle.calc_model.specs.declared.looked.Looked.{Looked}
 use Rattle.calc_model.specs.declared.looked.Looked.TheVariants.{Absent, Gone, At}
 use Rattle.calc_model.specs.Reads.{Names, areas, areas_step, named_areas}
 use Rattle.calc_model.specs.Scalars.{Values, scalar_at, if_covered, one_col, one_row}
-use Rattle.calc_model.specs.Eval.{Meaning, meaning, meaning_step, meaning_of_area, meaning_of_name, scalar_alone, binary, eval, is_built}
+use Rattle.calc_model.specs.Eval.{Meaning, meaning, meaning_step, meaning_of_area, meaning_of_name, scalar_alone, binary, eval, is_built, values_in}
+use Rattle.calc_model.proofs.Areas.{all_places, both_true}
 use Rattle.calc_model.proofs.TreeFolds as fold
 use Rattle.calc_model.proofs.TreeInduction.{Cases, tree_ind}
 
@@ -50,13 +51,26 @@ module _ (v w : Values) where
       cond_same (one_col a) (if_covered a in_row v) (if_covered a in_row w) _ _ (λ _. covered_same a in_row h) (λ _.
       cond_same (one_row a) (if_covered a in_col v) (if_covered a in_col w) (Bad BadValue) (Bad BadValue) (λ _. covered_same a in_col h) (λ _. refl)))
 
+  map_same : (passes : Place → Bool) → ((q : Place) → passes q ≡ true → v q ≡ w q) → (qs : List Place) → list_all passes qs ≡ true → map v qs ≡ map w qs
+  map_same passes same [] h = refl
+  map_same passes same (q ∷ qs) h =
+      let parts = both_true (passes q) (list_all passes qs) h in
+      ap (λ x. x ∷ map v qs) (same q parts.0) ∙ ap (λ xs. w q ∷ xs) (map_same passes same qs parts.1)
+
+  -- values that are the same in an area make the same list of it
+  values_same : (a : Rectangle) → ((q : Place) → covers a q ≡ true → v q ≡ w q) → values_in v a ≡ values_in w a
+  unfolding values_in
+  values_same a h = map_same (covers a) h (places a) (all_places (covers a) a (λ q c. c))
+
 module _ (home : Place) (names : Names) (v w : Values) where
   -- the meaning is the same where the values are the same in all that is read
   Claim : Tree → Type 0
   Claim x = Agree v w (areas home names x) → meaning home names v x ≡ meaning home names w x
 
   area_same : (a : Rectangle) → Agree v w (a ∷ []) → meaning_of_area home names v a ≡ meaning_of_area home names w a
-  area_same a h = ap (λ x. record { scalar = x; area = Some a }) (scalar_same v w a home h.0)
+  area_same a h =
+      ap (λ x. record { scalar = x; area = Some (record { area = a; values = values_in v a }) }) (scalar_same v w a home h.0)
+      ∙ ap (λ xs. record { scalar = scalar_at a home w; area = Some (record { area = a; values = xs }) }) (values_same v w a h.0)
 
   name_same : (looked : Looked) → Agree v w (named_areas looked) → meaning_of_name home names v looked ≡ meaning_of_name home names w looked
   name_same Absent h = refl

@@ -13,3 +13,4 @@ mod ShownExamples
 mod StepExamples
 mod StaleExamples
 pub mod Reached
+pub mod BooksKept

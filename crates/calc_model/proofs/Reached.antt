@@ -10,7 +10,8 @@ use Rattle.calc_model.specs.declared.content.Content.{Content}
 use Rattle.calc_model.specs.declared.content.Content.TheVariants.{Empty, Constant, Formula, Raw}
 use Rattle.calc_model.specs.Books.{Book, content_at, area_named, is_formula, formula_count}
 use Rattle.calc_model.specs.Reads.{reads, content_areas}
-use Rattle.calc_model.specs.Stale.{CellSet, any_cell, reaches_in, reaches, Reaches, ReachesAtAll, ReachesIndeed, is_formula_cell}
+use Rattle.calc_model.specs.Touched.{CellSet}
+use Rattle.calc_model.specs.Stale.{any_cell, reaches_in, reaches, Reaches, ReachesAtAll, ReachesIndeed, is_formula_cell}
 use Rattle.calc_model.proofs.Counting.{count, count_le_all, same_where_counted}
 use Rattle.calc_model.proofs.Rounds.{held_entry, more_lt}
 use Rattle.calc_model.proofs.Places.{same_places, places_total}

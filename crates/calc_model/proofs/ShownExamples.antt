@@ -15,9 +15,13 @@ use Rattle.calc_model.specs.declared.content.Content.{Content}
 use Rattle.calc_model.specs.declared.content.Content.TheVariants.{Empty, Constant, Formula, Raw}
 use Rattle.calc_model.specs.declared.tree.Op.TheVariants.{Add}
 use Rattle.calc_model.specs.declared.tree.Tree.{Tree}
+use Rattle.calc_model.specs.declared.tree.Tree.TheOpen.{Tree-F}
 use Rattle.calc_model.specs.declared.tree.Tree.TheVariants as t
 use Rattle.calc_model.specs.Books.{Book, IsBook, content_at, area_named, formula_count, with_content}
+use Rattle.calc_addr.specs.ValidReferences.{is_valid_reference}
 use Rattle.calc_model.specs.Eval.{top}
+use Rattle.calc_model.specs.Formed.{Form, form_of, form_step, is_formed, is_well_formed}
+use Rattle.calc_model.specs.Limits.{Counts, counts_of, counts_step, is_in_limits, is_within}
 use Rattle.calc_model.specs.Grounded.{all_cells, is_grounded, is_circular}
 use Rattle.calc_model.specs.Reads.{Names, areas, areas_step, content_areas}
 use Rattle.calc_model.specs.Scalars.{scalar_at, on_numbers}
@@ -243,57 +247,32 @@ the_text_of_a_circle = ap text_of a_cell_that_reads_itself_is_circular
 the_text_of_a_sum_out_of_range : text_of (val row_at_the_limit (at 4)) ≡ codes "#OVER!"
 the_text_of_a_sum_out_of_range = ap text_of a_sum_past_the_largest_number_is_over
 
--- all of these are books that can be: in order and within the limits
+-- a sum of two cells of the first row is a formula that can be
+sum_formed : (left right : ℕ) → is_valid_reference (cell_reference (at left)) ≡ true → is_valid_reference (cell_reference (at right)) ≡ true → is_formed (sum_of_cells (at left) (at right)) ≡ true
+unfolding is_well_formed is_in_limits
+sum_formed left right l r =
+    let a = cell_reference (at left) in
+    let b = cell_reference (at right) in
+    let formed : is_well_formed (sum_of_cells (at left) (at right)) ≡ true =
+    ap (λ (f : Form). f.formed) (fold.at-Binary Form form_step Add (t.Ref a) (t.Ref b))
+    ∙ ap (λ (f : Form). (form_step (Tree-F.Binary Add f (form_of (t.Ref b)))).formed) (fold.at-Ref Form form_step a)
+    ∙ ap (λ (f : Form). (form_step (Tree-F.Binary Add (form_step (Tree-F.Ref a)) f)).formed) (fold.at-Ref Form form_step b)
+    ∙ ap (λ x. (x && true) && (is_valid_reference b && true)) l
+    ∙ ap (λ x. x && true) r in
+    let within : is_in_limits (sum_of_cells (at left) (at right)) ≡ true =
+    ap is_within (fold.at-Binary Counts counts_step Add (t.Ref a) (t.Ref b))
+    ∙ ap (λ c. is_within (counts_step (Tree-F.Binary Add c (counts_of (t.Ref b))))) (fold.at-Ref Counts counts_step a)
+    ∙ ap (λ c. is_within (counts_step (Tree-F.Binary Add (counts_step (Tree-F.Ref a)) c))) (fold.at-Ref Counts counts_step b) in
+    ap (λ x. x && is_in_limits (sum_of_cells (at left) (at right))) formed ∙ within
+
+-- these are books that can be: in order and within the limits
 the_row_of_sums_is_a_book : IsBook row_of_sums
+unfolding is_valid_reference
 the_row_of_sums_is_a_book = record {
   cells_in_order = refl;
-  none_empty = refl;
+  cells_held = rw (sum_formed 1 2 refl refl, sum_formed 3 3 refl refl) refl;
   cells_in_limit = omega arith;
   names_in_order = refl;
-  names_in_limit = omega arith;
-}
-
-the_circle_of_one_is_a_book : IsBook circle_of_one
-the_circle_of_one_is_a_book = record {
-  cells_in_order = refl;
-  none_empty = refl;
-  cells_in_limit = omega arith;
-  names_in_order = refl;
-  names_in_limit = omega arith;
-}
-
-the_circle_of_two_is_a_book : IsBook circle_of_two
-the_circle_of_two_is_a_book = record {
-  cells_in_order = refl;
-  none_empty = refl;
-  cells_in_limit = omega arith;
-  names_in_order = refl;
-  names_in_limit = omega arith;
-}
-
-the_row_with_a_gap_is_a_book : IsBook row_with_a_gap
-the_row_with_a_gap_is_a_book = record {
-  cells_in_order = refl;
-  none_empty = refl;
-  cells_in_limit = omega arith;
-  names_in_order = refl;
-  names_in_limit = omega arith;
-}
-
-the_row_of_errors_is_a_book : IsBook row_of_errors
-the_row_of_errors_is_a_book = record {
-  cells_in_order = refl;
-  none_empty = refl;
-  cells_in_limit = omega arith;
-  names_in_order = refl;
-  names_in_limit = omega arith;
-}
-
-the_row_at_the_limit_is_a_book : IsBook row_at_the_limit
-the_row_at_the_limit_is_a_book = record {
-  cells_in_order = refl;
-  none_empty = refl;
-  cells_in_limit = omega arith;
-  names_in_order = refl;
+  names_spelled = refl;
   names_in_limit = omega arith;
 }

@@ -10,7 +10,8 @@ use Rattle.calc_model.specs.declared.edit.Edit.{Edit}
 use Rattle.calc_model.specs.declared.edit.Edit.TheVariants.{Set, Clear}
 use Rattle.calc_model.specs.Books.{Book, area_named, content_at, formula_count}
 use Rattle.calc_model.specs.Reads.{content_areas}
-use Rattle.calc_model.specs.Stale.{CellSet, any_cell, count_in, is_formula_cell, reaches, reaches_in, stale_after, touched}
+use Rattle.calc_model.specs.Touched.{CellSet, touched}
+use Rattle.calc_model.specs.Stale.{any_cell, count_in, is_formula_cell, reaches, reaches_in, stale_after}
 use Rattle.calc_model.specs.Step.{step}
 use Rattle.calc_model.proofs.ShownExamples.{areas_of_sum, at, book_of, circle_of_two, one_place, row_of_sums, row_with_a_gap, sum, whole}
 
@@ -64,45 +65,53 @@ the_first_cell_is_set : step circle_of_two (set_to 1 5) ≡ Ok circle_broken
 unfolding set_to
 the_first_cell_is_set = refl
 
-the_reader_of_a_cell_that_is_set_is_stale : stale_after circle_broken (set_to 1 5) none (at 2) ≡ true
+the_reader_of_a_cell_that_is_set_is_stale : stale_after circle_of_two (set_to 1 5) circle_broken none (at 2) ≡ true
 unfolding content_at formula_count reaches set_to
-the_reader_of_a_cell_that_is_set_is_stale = sum_reaches circle_broken 2 1 3 refl (touched (set_to 1 5)) 1
+the_reader_of_a_cell_that_is_set_is_stale = sum_reaches circle_broken 2 1 3 refl (touched circle_of_two (set_to 1 5) circle_broken) 1
 
-a_cell_that_holds_no_formula_is_never_stale : stale_after circle_broken (set_to 1 5) none (at 1) ≡ false
+a_cell_that_holds_no_formula_is_never_stale : stale_after circle_of_two (set_to 1 5) circle_broken none (at 1) ≡ false
 unfolding content_at
 a_cell_that_holds_no_formula_is_never_stale = refl
 
-one_formula_is_stale_after_the_set : count_in circle_broken (stale_after circle_broken (set_to 1 5) none) ≡ 1
+one_formula_is_stale_after_the_set : count_in circle_broken (stale_after circle_of_two (set_to 1 5) circle_broken none) ≡ 1
 unfolding content_at
-one_formula_is_stale_after_the_set = one_more (stale_after circle_broken (set_to 1 5) none) (at 2, sum 1 3) ((at 3, Constant (whole 1)) ∷ []) the_reader_of_a_cell_that_is_set_is_stale
+one_formula_is_stale_after_the_set = one_more (stale_after circle_of_two (set_to 1 5) circle_broken none) (at 2, sum 1 3) ((at 3, Constant (whole 1)) ∷ []) the_reader_of_a_cell_that_is_set_is_stale
 
 -- the same edit where both formulas were stale before it
-a_formula_that_was_stale_stays_so : stale_after circle_broken (set_to 1 5) (is_formula_cell circle_of_two) (at 2) ≡ true
-unfolding content_at
+a_formula_that_was_stale_stays_so : stale_after circle_of_two (set_to 1 5) circle_broken (is_formula_cell circle_of_two) (at 2) ≡ true
+unfolding content_at set_to
 a_formula_that_was_stale_stays_so = refl
 
-a_formula_that_is_overwritten_is_no_longer_stale : stale_after circle_broken (set_to 1 5) (is_formula_cell circle_of_two) (at 1) ≡ false
+a_formula_that_is_overwritten_is_no_longer_stale : stale_after circle_of_two (set_to 1 5) circle_broken (is_formula_cell circle_of_two) (at 1) ≡ false
 unfolding content_at
 a_formula_that_is_overwritten_is_no_longer_stale = refl
 
 -- 1,2,=[.A1]+[.B1],=[.C1]+[.C1]
-a_set_that_changes_nothing_makes_readers_stale_too : stale_after row_of_sums (set_to 2 2) none (at 3) ≡ true
+a_set_that_changes_nothing_makes_readers_stale_too : stale_after row_of_sums (set_to 2 2) row_of_sums none (at 3) ≡ true
 unfolding content_at formula_count reaches set_to
-a_set_that_changes_nothing_makes_readers_stale_too = sum_reaches row_of_sums 3 1 2 refl (touched (set_to 2 2)) 2
+a_set_that_changes_nothing_makes_readers_stale_too = sum_reaches row_of_sums 3 1 2 refl (touched row_of_sums (set_to 2 2) row_of_sums) 2
 
-a_formula_two_steps_away_is_stale : stale_after row_of_sums (set_to 2 2) none (at 4) ≡ true
+a_formula_two_steps_away_is_stale : stale_after row_of_sums (set_to 2 2) row_of_sums none (at 4) ≡ true
 unfolding content_at formula_count reaches set_to
 a_formula_two_steps_away_is_stale =
-    let cells = touched (set_to 2 2) in
+    let cells = touched row_of_sums (set_to 2 2) row_of_sums in
     sum_reaches row_of_sums 4 3 3 refl cells 2
     ∙ ap (λ b. b || b) (sum_reaches row_of_sums 3 1 2 refl cells 1)
 
-a_set_that_no_formula_reaches_makes_none_stale : stale_after row_of_sums (set_to 5 2) none (at 4) ≡ false
+-- the same with 2 in E1
+abbrev row_and_one_more : Book
+row_and_one_more = book_of ((at 1, Constant (whole 1)) ∷ (at 2, Constant (whole 2)) ∷ (at 3, sum 1 2) ∷ (at 4, sum 3 3) ∷ (at 5, Constant (whole 2)) ∷ [])
+
+a_cell_is_added : step row_of_sums (set_to 5 2) ≡ Ok row_and_one_more
+unfolding set_to
+a_cell_is_added = refl
+
+a_set_that_no_formula_reaches_makes_none_stale : stale_after row_of_sums (set_to 5 2) row_and_one_more none (at 4) ≡ false
 unfolding content_at formula_count reaches set_to
 a_set_that_no_formula_reaches_makes_none_stale =
-    let cells = touched (set_to 5 2) in
-    sum_reaches row_of_sums 4 3 3 refl cells 2
-    ∙ ap (λ b. b || b) (sum_reaches row_of_sums 3 1 2 refl cells 1)
+    let cells = touched row_of_sums (set_to 5 2) row_and_one_more in
+    sum_reaches row_and_one_more 4 3 3 refl cells 2
+    ∙ ap (λ b. b || b) (sum_reaches row_and_one_more 3 1 2 refl cells 1)
 
 -- 5,7,=[.A1]+[.B1],=[.B1]+[.B1]
 abbrev gap_filled : Book
@@ -112,18 +121,18 @@ the_gap_is_filled : step row_with_a_gap (set_to 2 7) ≡ Ok gap_filled
 unfolding set_to
 the_gap_is_filled = refl
 
-the_first_reader_of_the_gap_is_stale : stale_after gap_filled (set_to 2 7) none (at 3) ≡ true
+the_first_reader_of_the_gap_is_stale : stale_after row_with_a_gap (set_to 2 7) gap_filled none (at 3) ≡ true
 unfolding content_at formula_count reaches set_to
-the_first_reader_of_the_gap_is_stale = sum_reaches gap_filled 3 1 2 refl (touched (set_to 2 7)) 2
+the_first_reader_of_the_gap_is_stale = sum_reaches gap_filled 3 1 2 refl (touched row_with_a_gap (set_to 2 7) gap_filled) 2
 
-the_second_reader_of_the_gap_is_stale : stale_after gap_filled (set_to 2 7) none (at 4) ≡ true
+the_second_reader_of_the_gap_is_stale : stale_after row_with_a_gap (set_to 2 7) gap_filled none (at 4) ≡ true
 unfolding content_at formula_count reaches set_to
-the_second_reader_of_the_gap_is_stale = sum_reaches gap_filled 4 2 2 refl (touched (set_to 2 7)) 2
+the_second_reader_of_the_gap_is_stale = sum_reaches gap_filled 4 2 2 refl (touched row_with_a_gap (set_to 2 7) gap_filled) 2
 
-both_readers_of_the_gap_are_stale : count_in gap_filled (stale_after gap_filled (set_to 2 7) none) ≡ 2
+both_readers_of_the_gap_are_stale : count_in gap_filled (stale_after row_with_a_gap (set_to 2 7) gap_filled none) ≡ 2
 unfolding content_at
 both_readers_of_the_gap_are_stale =
-    let stale = stale_after gap_filled (set_to 2 7) none in
+    let stale = stale_after row_with_a_gap (set_to 2 7) gap_filled none in
     one_more stale (at 3, sum 1 2) ((at 4, sum 2 2) ∷ []) the_first_reader_of_the_gap_is_stale
     ∙ ap suc (one_more stale (at 4, sum 2 2) [] the_second_reader_of_the_gap_is_stale)
 
@@ -131,9 +140,9 @@ the_gap_is_cleared_again : step gap_filled (clear_to 2 2) ≡ Ok row_with_a_gap
 unfolding clear_to
 the_gap_is_cleared_again = refl
 
-the_reader_of_a_cleared_cell_is_stale : stale_after row_with_a_gap (clear_to 2 2) none (at 4) ≡ true
+the_reader_of_a_cleared_cell_is_stale : stale_after gap_filled (clear_to 2 2) row_with_a_gap none (at 4) ≡ true
 unfolding content_at formula_count reaches clear_to
-the_reader_of_a_cleared_cell_is_stale = sum_reaches row_with_a_gap 4 2 2 refl (touched (clear_to 2 2)) 2
+the_reader_of_a_cleared_cell_is_stale = sum_reaches row_with_a_gap 4 2 2 refl (touched gap_filled (clear_to 2 2) row_with_a_gap) 2
 
 -- 5,=[.A1]+[.A1],=[.A1]+[.B1],=[.B1]+[.B1]
 abbrev gap_summed : Book
@@ -142,6 +151,6 @@ gap_summed = book_of ((at 1, Constant (whole 5)) ∷ (at 2, sum 1 1) ∷ (at 3, 
 the_gap_holds_a_sum : step row_with_a_gap (Set (at 2) (sum 1 1)) ≡ Ok gap_summed
 the_gap_holds_a_sum = refl
 
-a_formula_that_is_set_is_stale : stale_after gap_summed (Set (at 2) (sum 1 1)) none (at 2) ≡ true
+a_formula_that_is_set_is_stale : stale_after row_with_a_gap (Set (at 2) (sum 1 1)) gap_summed none (at 2) ≡ true
 unfolding content_at formula_count reaches
-a_formula_that_is_set_is_stale = sum_reaches gap_summed 2 1 1 refl (touched (Set (at 2) (sum 1 1))) 3
+a_formula_that_is_set_is_stale = sum_reaches gap_summed 2 1 1 refl (touched row_with_a_gap (Set (at 2) (sum 1 1)) gap_summed) 3

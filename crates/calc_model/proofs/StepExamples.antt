@@ -7,7 +7,9 @@ use Rattle.calc_model.specs.declared.content.Content.{Content}
 use Rattle.calc_model.specs.declared.content.Content.TheVariants.{Empty, Constant}
 use Rattle.calc_model.specs.declared.edit.Edit.TheVariants.{Set, Clear}
 use Rattle.calc_model.specs.Books.{Book}
-use Rattle.calc_model.specs.Step.{Cause.CellsFull, if_cells_fit, step}
+use Rattle.calc_model.specs.declared.edit.EditCause.TheVariants.{CellsFull}
+use Rattle.calc_model.specs.declared.limits.TheConstants.{MOST_CELLS}
+use Rattle.calc_model.specs.Step.{if_cells_fit, step}
 
 abbrev at : ℕ → ℕ → Place
 at col row = record { sheet = 0; col = col; row = row }
@@ -52,7 +54,7 @@ a_clear_of_another_sheet_changes_nothing : step three_cells (Clear (area 1 1 102
 a_clear_of_another_sheet_changes_nothing = refl
 
 a_book_may_have_as_many_cells_as_the_limit : (book : Book) → length book.cells ≡ 4194304 → if_cells_fit book ≡ Ok book
-a_book_may_have_as_many_cells_as_the_limit book full = ap (λ n. if nat_le n 4194304 then Ok book else Err CellsFull) full
+a_book_may_have_as_many_cells_as_the_limit book full = ap (λ n. if nat_le n MOST_CELLS then Ok book else Err CellsFull) full
 
 one_cell_more_than_the_limit_is_refused : (book : Book) → length book.cells ≡ 4194305 → if_cells_fit book ≡ Err CellsFull
-one_cell_more_than_the_limit_is_refused book over = ap (λ n. if nat_le n 4194304 then Ok book else Err CellsFull) over
+one_cell_more_than_the_limit_is_refused book over = ap (λ n. if nat_le n MOST_CELLS then Ok book else Err CellsFull) over

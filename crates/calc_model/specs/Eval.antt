@@ -1,8 +1,7 @@
 -- What a formula gives over the values of a book, after OpenFormula's evaluation of expressions.
-use Rattle.std.specs.Prelude.{pos, ◌&&◌, Bool, true, false, Option, Some, None, if◌then◌else◌}
+use Rattle.std.specs.Prelude.{pos, ◌+ℤ◌, ◌&&◌, Bool, true, false, List, map, Option, Some, None, if◌then◌else◌}
 use Rattle.calc_num.specs.Decimals.{checked}
-use Rattle.std.specs.Prelude.{◌+ℤ◌}
-use Rattle.calc_addr.specs.Places.{Place, Rectangle}
+use Rattle.calc_addr.specs.Places.{Place, Rectangle, places}
 use Rattle.calc_addr.specs.References.{here}
 use Rattle.calc_addr.specs.declared.reference.Span.{Span}
 use Rattle.calc_addr.specs.declared.reference.Span.TheVariants.{One}
@@ -19,11 +18,19 @@ use Rattle.calc_model.specs.declared.tree.Tree.TheFolds.{fold-Tree}
 use Rattle.calc_model.specs.Reads.{Names}
 use Rattle.calc_model.specs.Scalars.{Values, scalar_at, on_numbers}
 
+-- an area, and the values of its cells in area order
+pub record ValuedArea : Type 0 where
+  pub area : Rectangle
+  pub values : List Value
+
+unfoldable pub values_in : Values → Rectangle → List Value
+values_in values area = map values (places area)
+
 -- What a part of a formula is to the part around it: the value in a place that takes one value, and
--- the area where the part is a reference, in any number of parentheses.
+-- the area with its values where the part is a reference, in any number of parentheses.
 pub record Meaning : Type 0 where
   pub scalar : Value
-  pub area : Option Rectangle
+  pub area : Option ValuedArea
 
 abbrev pub scalar_alone : Value → Meaning
 scalar_alone value = record { scalar = value; area = None }
@@ -35,7 +42,10 @@ binary _ left right = Bad Syntax
 
 module _ (home : Place) (names : Names) (values : Values) where
   abbrev pub meaning_of_area : Rectangle → Meaning
-  meaning_of_area area = record { scalar = scalar_at area home values; area = Some area }
+  meaning_of_area area = record {
+    scalar = scalar_at area home values;
+    area = Some (record { area = area; values = values_in values area });
+  }
 
   abbrev pub meaning_of_name : Looked → Meaning
   meaning_of_name Absent = scalar_alone (Bad BadName)

@@ -15,4 +15,5 @@ pub mod Formed
 pub mod Printed
 pub mod Field
 pub mod Step
+pub mod Touched
 pub mod Stale

@@ -1,24 +1,14 @@
 -- Which formulas are stale, that is, have to be calculated again: all of a loaded book; after an edit those that
--- were stale before and are still formulas, and every formula that the edit touches or that reaches a touched
--- cell by reading; after a recalculation none.
-use Rattle.std.specs.Prelude.{◌≡◌, ℕ, zero, suc, ◌+◌, ◌&&◌, ◌||◌, Bool, true, false, List, length}
+-- were stale before, at their moved place, and are still formulas, and every formula that the edit touches or that
+-- reaches a touched cell by reading; after a recalculation none.
+use Rattle.std.specs.Prelude.{◌≡◌, ℕ, zero, suc, ◌+◌, ◌&&◌, ◌||◌, Bool, true, List, length}
 use Rattle.std.specs.List.{filter, list_any}
 use Rattle.std.specs.Ordering.{eq_by_cmp}
-use Rattle.calc_addr.specs.Places.{Place, Rectangle, covers, place_cmp, places}
+use Rattle.calc_addr.specs.Places.{Place, Rectangle, place_cmp, places}
 use Rattle.calc_model.specs.declared.edit.Edit.{Edit}
-use Rattle.calc_model.specs.declared.edit.Edit.TheVariants.{Set, Clear}
 use Rattle.calc_model.specs.Books.{Book, content_at, is_formula, formula_count}
 use Rattle.calc_model.specs.Reads.{reads}
-
--- some cells of all sheets, as a test
-abbrev pub CellSet : Type 0
-CellSet = Place → Bool
-
--- the cells that an edit touches, changed or not: those that it sets or clears
-abbrev pub touched : Edit → CellSet
-touched (Set cell content) q = eq_by_cmp place_cmp cell q
-touched (Clear area) q = covers area q
-touched _ q = false
+use Rattle.calc_model.specs.Touched.{CellSet, moved, touched}
 
 -- whether a cell of these areas passes a test
 abbrev pub any_cell : CellSet → List Rectangle → Bool
@@ -37,9 +27,10 @@ reaches book cells = reaches_in book cells (formula_count book + 1)
 abbrev pub is_formula_cell : Book → CellSet
 is_formula_cell book q = is_formula (content_at book q)
 
--- the stale formulas of a book that an edit made, from those before it
-abbrev pub stale_after : Book → Edit → CellSet → CellSet
-stale_after book edit stale q = is_formula_cell book q && (stale q || reaches book (touched edit) q)
+-- the stale formulas after an edit, from those before it
+abbrev pub stale_after : Book → Edit → Book → CellSet → CellSet
+stale_after before edit after stale q =
+    is_formula_cell after q && (moved edit stale q || reaches after (touched before edit after) q)
 
 -- how many cells of the book are among these
 abbrev pub count_in : Book → CellSet → ℕ

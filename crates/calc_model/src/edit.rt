@@ -24,3 +24,22 @@ pub enum Edit {
     /// The generated book takes the place of all cells and names.
     Make { start: u32, rows: u32 },
 }
+
+/// Why an edit is refused, in the order in which the causes are looked for.
+#[derive(Clone, Copy, Debug, PartialEq, Eq)]
+pub enum EditCause {
+    /// Edits of this kind aren't built yet.
+    NotBuilt,
+    /// What the edit reaches lies outside the sheet.
+    OffSheet,
+    /// The name isn't spelled as names are.
+    BadName,
+    /// The name isn't defined.
+    NoName,
+    /// There would be more names than a book may have.
+    NamesFull,
+    /// A cell that isn't empty would be pushed past the last row.
+    RowsFull,
+    /// There would be more cells that aren't empty than a book may have.
+    CellsFull,
+}

@@ -1,3 +1,11 @@
+//! The limits of books and of fields.
+
+/// The most cells of a book that aren't empty.
+pub const MOST_CELLS: usize = 4_194_304;
+
+/// The most names of a book.
+pub const MOST_NAMES: usize = 1_024;
+
 /// The most bytes of a field that is kept.
 pub const MOST_FIELD_BYTES: usize = 65_535;
 
