@@ -8,7 +8,6 @@ pub mod Eval
 pub mod Val
 pub mod FixedPoint
 pub mod Results
-pub mod Fields
 pub mod Tokens
 pub mod Grammar
 pub mod Limits

@@ -22,7 +22,7 @@ pub mod OperatorsSpelled
 pub mod SignsSpelled
 pub mod RowsSpelled
 pub mod FormulasSpelled
-pub mod FieldsRead
+pub mod Meaning
 pub mod Capitals
 pub mod FormedSpellings
 mod FieldExamples
