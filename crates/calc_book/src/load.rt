@@ -1,77 +1,53 @@
 //! A book's cells, set field by field.
-ghost use Rattle.std.specs.Prelude.{◌≡◌, ◌≤◌, true, false, IfOk, OnOk, IsErrOf};
+ghost use Rattle.std.specs.Prelude.{◌≡◌, ◌≤◌, ◌+◌, true, false, IsErrOf, OnOk, length};
 ghost use Rattle.std.specs.List.{list_all};
-ghost use Rattle.calc_book.specs.BookForm.{fields_in, is_plain_byte, is_plain_record, is_plain_book, with_fields, book_cells};
+ghost use Rattle.calc_model.specs.declared.content.Content.{Content};
+ghost use Rattle.calc_book.specs.BookForm.{book_read, fields_in, is_plain_book, is_plain_byte, is_plain_record, with_fields};
+ghost use Rattle.calc_book.specs.Loading.{LoadsAs, SetsAs};
 
 use crate::plain::is_plain_book;
 use crate::splitting::fields_of;
+use byte_cuts::lines;
 use calc_addr::{Cell, NoMemory};
-use calc_script::lines;
+use calc_model::MOST_CELLS;
+use cell_map::{CellMap, EditFault};
 use formula_reader::read_field;
-use plain_evaluator::{Cells, set_content};
 use std::alloc::{AllocError, Global};
+use thiserror::Error;
 
 /// Why a book isn't read.
-#[derive(Clone, Copy, Debug, PartialEq, Eq)]
+#[derive(Clone, Copy, Debug, PartialEq, Eq, Error)]
 pub enum BookFault {
-    /// It has a form that can't be read so far.
+    #[error("the book has a form that can't be read so far")]
     NotBuilt,
-    /// Memory was refused.
-    NoMemory,
+    #[error("memory was refused")]
+    NoMemory(#[from(alloc)] NoMemory),
 }
 
-impl From<AllocError> for BookFault {
-    ghost use Rattle.std.specs.Prelude.{◌≡◌};
-    ghost use Rattle.calc_book.specs.declared.load.BookFault.TheVariants.{NoMemory};
-
-    ghost from_gives = { λ _ fault. fault ≡ NoMemory };
-
-    fn from(_refused: AllocError) -> BookFault {
-        BookFault::NoMemory
-    }
-}
-
-/// The cells of a book that aren't empty. Its records are the rows of the first sheet, from row 1 on,
-/// and the fields of a record its columns, from column 1 on.
-pub fn read_book(alloc: Global, bytes: &[u8]) -> Result<Cells, BookFault>
-    ensures cells { IfOk result (λ cells. cells.entries ≡ book_cells bytes.now) }
+/// The book of these bytes. Its records are the rows of the first sheet, from row 1 on, and the fields of
+/// a record its columns, from column 1 on. Linear in the bytes, but for the logarithm of the cells.
+pub fn read_book(alloc: Global, bytes: &[u8]) -> Result<CellMap, BookFault>
+    ensures book { LoadsAs result (λ field. book_read field bytes.now) }
     ensures not_built { IsErrOf result BookFault.NotBuilt → is_plain_book bytes.now ≡ false }
     ensures built { is_plain_book bytes.now ≡ false → IsErrOf result BookFault.NotBuilt }
 {
     if !is_plain_book(bytes) {
         return Err(BookFault::NotBuilt);
     }
-    let cells = read_records(alloc, bytes)?;
-    Ok(cells)
+    let book = read_records(alloc, bytes).map_err(BookFault::NoMemory)?;
+    Ok(book)
 }
 
 /// The cells of a book that can be read.
-fn read_records(alloc: Global, bytes: &[u8]) -> Result<Cells, NoMemory>
+fn read_records(alloc: Global, bytes: &[u8]) -> Result<CellMap, NoMemory>
     requires { is_plain_book bytes.now ≡ true }
-    ensures { IfOk result (λ cells. cells.entries ≡ book_cells bytes.now) }
+    ensures { LoadsAs result (λ field. book_read field bytes.now) }
 {
-    let mut cells = Cells::new(alloc);
+    let mut book = CellMap::new(alloc);
     let mut row = 1;
     for line in lines(bytes) {
-        read_record(alloc, &mut cells, row, line)?;
+        read_record(alloc, &mut book, row, line)?;
         row += 1;
     }
-    Ok(cells)
-}
-
-/// Sets the cells of a row to the fields of a record.
-fn read_record(alloc: Global, cells: &mut Cells, row: u32, text: &[u8]) -> Result<(), NoMemory>
-    requires first { 1 ≤ row }
-    requires last { row ≤ 1048576 }
-    requires bytes { list_all is_plain_byte text.now ≡ true }
-    requires form { is_plain_record text.now ≡ true }
-    ensures { OnOk result (cells.new.entries ≡ with_fields row 1 cells.old.entries (fields_in text.now)) }
-{
-    let mut col = 1;
-    for field in fields_of(text) {
-        let content = read_field(alloc, field)?;
-        set_content(cells, Cell { sheet: 0, col, row }, content)?;
-        col += 1;
-    }
-    Ok(())
+    Ok(book)
 }

@@ -14,6 +14,7 @@ pub mod Limits
 pub mod Formed
 pub mod Printed
 pub mod Field
+pub mod OverFields
 pub mod Step
 pub mod Touched
 pub mod Stale

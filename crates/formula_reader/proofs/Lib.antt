@@ -23,6 +23,7 @@ pub mod SignsSpelled
 pub mod RowsSpelled
 pub mod FormulasSpelled
 pub mod Meaning
+pub mod OneMeaning
 pub mod Capitals
 pub mod FormedSpellings
 mod FieldExamples
