@@ -10,11 +10,18 @@ use Rattle.calc_book.specs.declared.plain.TheConstants.{MOST_BYTES}
 use Rattle.calc_cli.specs.declared.status.TheConstants.{BOOK_REFUSED, DESK_FAILED, LINE_REFUSED, NO_MEMORY, SCRIPT_TOO_LONG, SINK_FAILED}
 use Rattle.calc_cli.specs.declared.inputs.TheConstants.{MOST_SCRIPT_BYTES}
 use Rattle.calc_cli.specs.Ending.{Ending, ending}
+use Rattle.calc_cli.specs.Words.{book_name}
 
 -- The desk tells the book of that name, and its script.
 pub record Tells (books : Option Books) (script_left : Option (List ℕ)) (name book script : List ℕ) : Type 0 where
   pub has_book : told_book books name ≡ Some book
   pub has_script : script_left ≡ Some script
+
+-- The words name a book that the desk tells, and its script.
+pub record Serves (books : Option Books) (script_left : Option (List ℕ)) (words : List (List ℕ)) (book script : List ℕ) : Type 0 where
+  pub name : List ℕ
+  pub is_named : book_name words ≡ Some name
+  pub told : Tells books script_left name book script
 
 -- a prefix of the whole was written
 abbrev pub GrowsWithin : Option (List ℕ) → Option (List ℕ) → List ℕ → Type 0
@@ -48,13 +55,17 @@ TakesAtMost most bytes left = (taken : ℕ) × (taken ≤ most) × (left ≡ Som
 
 -- What is left of the inputs after a run with this status. Where all lines were answered, both were read to their
 -- ends; where the book was refused, nothing of the script was taken; and where the script is too long, one byte
--- more than it may have. In no case is more taken of either than one byte past its limit, and a book that
--- couldn't be opened leaves the one that was open as it was.
-pub record TakesInputs (status : ℕ) (book script : List ℕ) (book_before book_left script_left : Option (List ℕ)) : Type 0 where
+-- more than it may have.
+pub record LeavesInputs (status : ℕ) (script : List ℕ) (book_left script_left : Option (List ℕ)) : Type 0 where
   pub book_ends : status ≤ LINE_REFUSED → book_left ≡ Some []
   pub script_ends : status ≤ LINE_REFUSED → script_left ≡ Some []
   pub untaken : status ≡ BOOK_REFUSED → script_left ≡ Some script
   pub cut_off : status ≡ SCRIPT_TOO_LONG → script_left ≡ Some (drop (MOST_SCRIPT_BYTES + 1) script)
+
+-- The same, and at no status is more taken of either than one byte past its limit. A book that couldn't be opened
+-- leaves the one that was open as it was.
+pub record TakesInputs (status : ℕ) (book script : List ℕ) (book_before book_left script_left : Option (List ℕ)) : Type 0 where
+  pub leaves : LeavesInputs status script book_left script_left
   pub book_within : Keeps book_before book_left ⊎ TakesAtMost (MOST_BYTES + 1) book book_left
   pub script_within : TakesAtMost (MOST_SCRIPT_BYTES + 1) script script_left
 

@@ -2,11 +2,12 @@
 ghost use Rattle.std.specs.Prelude.{OnOk, ◌++◌, ◌≡◌};
 ghost use Rattle.calc_cli.specs.Records.{held_texts, shown_texts};
 ghost use Rattle.calc_model.specs.Results.{shown_by};
-ghost use Rattle.plain_evaluator.specs.Plain.{book_of, results_of};
+ghost use Rattle.cell_map.specs.ResultMap.{results_of};
 
 use calc_addr::{Cell, NoMemory};
+use calc_model::show;
+use cell_map::{CellMap, ResultMap, shown};
 use formula_printer::print_content;
-use plain_evaluator::{Cells, Results, content_of, show_cell};
 
 /// A text for each cell.
 pub(crate) trait CellTexts {
@@ -22,29 +23,29 @@ pub(crate) trait CellTexts {
 /// What cells show, by the results of their formulas.
 #[derive(Clone, Copy)]
 pub(crate) struct Shown<'a> {
-    pub(crate) cells: &'a Cells,
-    pub(crate) results: &'a Results,
+    pub(crate) book: &'a CellMap,
+    pub(crate) results: &'a ResultMap,
 }
 
 impl CellTexts for Shown<'_> {
-    ghost texts = { λ shown. shown_texts (shown_by (book_of shown.cells.now.entries) (results_of shown.results.now.entries)) };
+    ghost texts = { λ all. shown_texts (shown_by all.book.now (results_of all.results.now)) };
 
     fn push(&self, cell: Cell, out: &mut Vec<u8>) -> Result<(), NoMemory> {
-        show_cell(self.cells, self.results, cell, out)
+        show(shown(self.book, self.results, cell), out)
     }
 }
 
 /// What cells hold.
 #[derive(Clone, Copy)]
 pub(crate) struct Held<'a> {
-    pub(crate) cells: &'a Cells,
+    pub(crate) book: &'a CellMap,
 }
 
 impl CellTexts for Held<'_> {
-    ghost texts = { λ held. held_texts (book_of held.cells.now.entries) };
+    ghost texts = { λ all. held_texts all.book.now };
 
     fn push(&self, cell: Cell, out: &mut Vec<u8>) -> Result<(), NoMemory> {
-        match content_of(self.cells, cell) {
+        match self.book.get(cell) {
             Some(content) => print_content(content, out),
             None => Ok(()),
         }

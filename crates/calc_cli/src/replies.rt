@@ -3,11 +3,11 @@ ghost use Rattle.std.specs.Prelude.{◌≡◌, IfOk, false, true};
 ghost use Rattle.calc_model.specs.Step.{step};
 ghost use Rattle.calc_cli.specs.Output.{accepted, answer, done, edited, recalculated, recalculation, refusal_text};
 ghost use Rattle.calc_cli.specs.Records.{held_texts, printed_area, shown_texts};
-ghost use Rattle.calc_cli.specs.Sessions.{given, session_of};
+ghost use Rattle.calc_cli.specs.Sessions.{Replies, session_of};
 ghost use Rattle.calc_model.specs.Val.{val};
 
-use crate::print::print_area;
-use crate::texts::{Held, Shown};
+use crate::cell_texts::{Held, Shown};
+use crate::records::print_area;
 use calc_addr::{Area, NoMemory};
 use calc_model::Edit;
 use calc_script::{Cause, Command, Line};
@@ -30,7 +30,8 @@ pub(crate) fn answer_line(
     number: usize,
     line: &Line,
 ) -> Result<Reply, NoMemory>
-    ensures { IfOk result (λ reply. answer (session_of workbook.old) number line.now ≡ given (session_of workbook.new) reply.text.items reply.refused) }
+    ensures { Replies result (session_of workbook.new)
+        (answer (session_of workbook.old) number line.now) }
 {
     match line {
         Line::Nothing => Ok(accept(Vec::new(alloc))),
@@ -45,7 +46,8 @@ fn do_command(
     number: usize,
     command: &Command,
 ) -> Result<Reply, NoMemory>
-    ensures { IfOk result (λ reply. done (session_of workbook.old) number command.now ≡ given (session_of workbook.new) reply.text.items reply.refused) }
+    ensures { Replies result (session_of workbook.new)
+        (done (session_of workbook.old) number command.now) }
 {
     match command {
         Command::Edit(edit) => make_edit(alloc, workbook, number, edit),
@@ -61,17 +63,19 @@ fn make_edit(
     number: usize,
     edit: &Edit,
 ) -> Result<Reply, NoMemory>
-    ensures { IfOk result (λ reply. edited (session_of workbook.old) number edit.now (step (session_of workbook.old).book edit.now) ≡ given (session_of workbook.new) reply.text.items reply.refused) }
+    ensures { Replies result (session_of workbook.new) (edited (session_of workbook.old) number
+        edit.now (step (session_of workbook.old).book edit.now)) }
 {
     match workbook.edit(alloc, edit) {
         Ok(()) => Ok(accept(Vec::new(alloc))),
-        Err(EditFault::CellsFull) => refuse(alloc, number, Cause::CellsFull),
+        Err(EditFault::Refused(cause)) => refuse(alloc, number, Cause::Edit(cause)),
         Err(EditFault::NoMemory) => Err(AllocError),
     }
 }
 
 fn recalculate(alloc: Global, workbook: &mut PlainWorkbook) -> Result<Reply, NoMemory>
-    ensures { IfOk result (λ reply. accepted (recalculated (session_of workbook.old)) (recalculation (session_of workbook.old)) ≡ given (session_of workbook.new) reply.text.items reply.refused) }
+    ensures { Replies result (session_of workbook.new) (accepted
+        (recalculated (session_of workbook.old)) (recalculation (session_of workbook.old))) }
 {
     let count = workbook.stale_count(alloc)?;
     let _results = workbook.recalculate(alloc)?;
@@ -83,21 +87,24 @@ fn recalculate(alloc: Global, workbook: &mut PlainWorkbook) -> Result<Reply, NoM
 }
 
 fn print_shown(alloc: Global, workbook: &mut PlainWorkbook, area: Area) -> Result<Reply, NoMemory>
-    ensures { IfOk result (λ reply. accepted (recalculated (session_of workbook.old)) (printed_area (shown_texts (val (session_of workbook.old).book)) area) ≡ given (session_of workbook.new) reply.text.items reply.refused) }
+    ensures { Replies result (session_of workbook.new) (accepted
+        (recalculated (session_of workbook.old))
+        (printed_area (shown_texts (val (session_of workbook.old).book)) area)) }
 {
     let results = workbook.recalculate(alloc)?;
     let shown = Shown {
-        cells: workbook.cells(),
+        book: workbook.book(),
         results: &results,
     };
     Ok(accept(print_area(alloc, &shown, area)?))
 }
 
 fn print_held(alloc: Global, workbook: &PlainWorkbook, area: Area) -> Result<Reply, NoMemory>
-    ensures { IfOk result (λ reply. accepted (session_of workbook.now) (printed_area (held_texts (session_of workbook.now).book) area) ≡ given (session_of workbook.now) reply.text.items reply.refused) }
+    ensures { Replies result (session_of workbook.now) (accepted (session_of workbook.now)
+        (printed_area (held_texts (session_of workbook.now).book) area)) }
 {
     let held = Held {
-        cells: workbook.cells(),
+        book: workbook.book(),
     };
     Ok(accept(print_area(alloc, &held, area)?))
 }

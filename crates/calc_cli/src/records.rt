@@ -1,9 +1,10 @@
 //! Records of cells.
 ghost use Rattle.std.specs.Prelude.{◌≡◌, ◌++◌, ℕ, List, IfOk, OnOk};
 ghost use Rattle.csv.specs.Records.{fields_of};
-ghost use Rattle.calc_cli.specs.Records.{row_texts, record_text, printed_area, Holds};
+ghost use Rattle.calc_cli.specs.Records.{printed_area, record_text, row_texts};
+ghost use Rattle.calc_cli.specs.Writers.{Holds};
 
-use crate::texts::CellTexts;
+use crate::cell_texts::CellTexts;
 use calc_addr::{Area, NoMemory};
 use csv::{ByteRecord, Writer, WriterBuilder};
 use std::alloc::{AllocError, Global};
@@ -53,7 +54,8 @@ fn writer_to(out: Vec<u8>) -> Writer<Vec<u8>>
 
 /// Writes one record. All records of an area have one length, so only memory can be wanting.
 fn write_record(writer: &mut Writer<Vec<u8>>, fields: &ByteRecord) -> Result<(), NoMemory>
-    ensures { (bytes : List ℕ) → Holds writer.old bytes → OnOk result (Holds writer.new (bytes ++ record_text (fields_of fields.now))) }
+    ensures { (bytes : List ℕ) → Holds writer.old bytes
+        → OnOk result (Holds writer.new (bytes ++ record_text (fields_of fields.now))) }
 {
     match writer.write_byte_record(fields) {
         Ok(()) => Ok(()),

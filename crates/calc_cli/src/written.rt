@@ -2,7 +2,7 @@ ghost use Rattle.std.specs.Prelude.{◌≡◌, ◌≤◌, length, OnOk, OnErr, I
 ghost use Rattle.std.specs.Io.KnownBytes.{Appends};
 ghost use Rattle.calc_io.specs.Faults.{Rose};
 ghost use Rattle.calc_io.specs.Sink.{HasRoom, RoomFalls};
-ghost use Rattle.calc_cli.specs.Writes.{GrowsWithin};
+ghost use Rattle.calc_cli.specs.Runs.{GrowsWithin};
 
 use calc_io::{Failed, Sink};
 
