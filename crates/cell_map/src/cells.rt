@@ -1,0 +1,150 @@
+ghost use Rattle.std.specs.Prelude.{◌≡◌, ◌<◌, ◌≤◌, ◌↔◌, nat_le, [], true, length, unwrap_or, IsErrOf, IsTrue, OnOk, OnErr};
+ghost use Rattle.std.specs.List.{All};
+ghost use Rattle.std.specs.BTreeMap.{insert_entry};
+ghost use Rattle.std.specs.Option.{option_copied};
+ghost use Rattle.calc_addr.specs.Places.{place_cmp};
+ghost use Rattle.calc_model.specs.declared.content.Content.{Content};
+ghost use Rattle.calc_model.specs.Books.{IsBook, content_at, formula_count, is_content, is_held, is_place, with_content};
+
+use crate::fault::EditFault;
+use calc_addr::Cell;
+use calc_model::{Content, EditCause, MOST_CELLS};
+use std::alloc::Global;
+use std::collections::BTreeMap;
+use std::collections::btree_map::Iter;
+use std::marker::Model;
+
+/// What each cell that isn't empty holds, of at most 4,194,304 cells. Contracts see it as a book without
+/// names.
+#[derive(Drop)]
+pub struct CellMap {
+    cells: BTreeMap<Cell, Content>,
+}
+
+impl Model for CellMap {
+    ghost use Rattle.std.specs.Prelude.{[]};
+    ghost use Rattle.std.specs.Coded.{codes};
+    ghost use Rattle.calc_model.specs.Books.{Book, IsBook};
+    ghost use Rattle.calc_model.specs.contracts.tree.Tree as coded_tree;
+
+    ghost Value = { Book };
+
+    ghost coded = { Prim.hlevel (codes, coded_tree.the_row.coded) };
+
+    ghost view = { λ m. record { cells = m.cells.entries; names = [] } };
+
+    ghost invariant = { λ m. IsBook (record { cells = m.cells.entries; names = [] }) };
+}
+
+impl CellMap {
+    /// No cell.
+    pub fn new(alloc: Global) -> CellMap
+        ensures cells { result.cells ≡ [] }
+        ensures names { result.names ≡ [] }
+    {
+        CellMap {
+            cells: BTreeMap::new(alloc),
+        }
+    }
+
+    /// How many cells aren't empty.
+    pub fn len(&self) -> usize
+        ensures cells { result ≡ length self.now.cells }
+        ensures book { IsBook self.now }
+    {
+        self.cells.len()
+    }
+
+    pub fn is_empty(&self) -> bool
+        ensures { IsTrue result ↔ (self.now.cells ≡ []) }
+    {
+        self.cells.is_empty()
+    }
+
+    /// What the cell holds, if it isn't empty.
+    pub fn get(&self, cell: Cell) -> Option<&Content>
+        ensures content { content_at self.now cell ≡ unwrap_or (option_copied result) Content.Empty }
+        ensures book { IsBook self.now }
+    {
+        self.cells.get(&cell)
+    }
+
+    /// Puts a content into a cell, or empties it.
+    pub fn set(&mut self, cell: Cell, content: Content) -> Result<(), EditFault>
+        ensures cells { OnOk result (self.new.cells ≡ with_content self.old.cells cell content) }
+        ensures names { self.new.names ≡ self.old.names }
+        ensures book { IsBook self.new }
+        ensures full { IsErrOf result (EditFault.Refused EditCause.CellsFull)
+            → MOST_CELLS < length (with_content self.old.cells cell content) }
+        ensures kept { OnErr result (self.new ≡ self.old) }
+    {
+        if !is_held(&content) {
+            self.cells.remove(&cell);
+            return Ok(());
+        }
+        if !has_room(&self.cells, cell) {
+            return Err(EditFault::Refused(EditCause::CellsFull));
+        }
+        match self.cells.insert(in_sheets(cell), content) {
+            Ok(_) => Ok(()),
+            Err(_) => Err(EditFault::NoMemory),
+        }
+    }
+
+    /// How many cells hold a formula. Linear in the cells.
+    #[tactic(auto, unfolding(calc_model::specs::Books::formula_count))]
+    pub fn formula_count(&self) -> usize
+        ensures { result ≡ formula_count self.now }
+    {
+        self.cells
+            .iter()
+            .filter(|entry| matches!(entry.1, Content::Formula(_)))
+            .count()
+    }
+
+    /// The cells that aren't empty with what they hold, in the order of cells.
+    pub fn iter(&self) -> Iter<'_, Cell, Content>
+        ensures rest { result ≡ self.now.cells }
+        ensures found { All (λ entry. content_at self.now entry.0 ≡ entry.1) self.now.cells }
+        ensures book { IsBook self.now }
+    {
+        self.cells.iter()
+    }
+}
+
+/// Whether the map may have a content in that cell.
+fn has_room(cells: &BTreeMap<Cell, Content>, cell: Cell) -> bool
+    requires { length cells.now.entries ≤ MOST_CELLS }
+    ensures { (content : Content)
+        → result ≡ nat_le (length (insert_entry place_cmp cells.now.entries cell content)) MOST_CELLS }
+{
+    cells.len() < MOST_CELLS || cells.contains_key(&cell)
+}
+
+/// The cell, which lies in one of the sheets as every cell does.
+fn in_sheets(cell: Cell) -> Cell
+    ensures same { result ≡ cell }
+    ensures place { is_place cell ≡ true }
+{
+    let _ = cell.sheet;
+    cell
+}
+
+/// Whether it is the content of a cell that isn't empty. Every such one is formed.
+fn is_held(content: &Content) -> bool
+    ensures held { result ≡ is_held content.now }
+    ensures content { result ≡ is_content content.now }
+{
+    match content {
+        Content::Empty => false,
+        Content::Constant(constant) => {
+            let _ = constant.value();
+            true
+        }
+        Content::Formula(formula) => {
+            let _ = formula.tree();
+            true
+        }
+        Content::Raw(_) => true,
+    }
+}
