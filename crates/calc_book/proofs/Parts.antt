@@ -130,8 +130,11 @@ module _ (bytes : List ℕ) (h : is_plain_book bytes ≡ true) where
   both_of_bytes : (short && list_all is_plain_byte bytes) ≡ true
   both_of_bytes = first_of (short && list_all is_plain_byte bytes) (list_all is_plain_record (lines_of bytes)) h
 
+  pub short_bytes : length bytes ≤ MOST_BYTES
+  short_bytes = leb-true (length bytes) MOST_BYTES (first_of short (list_all is_plain_byte bytes) both_of_bytes)
+
   pub short_book : length (lines_of bytes) ≤ MOST_BYTES
-  short_book = omega (arith, few_lines bytes, leb-true (length bytes) MOST_BYTES (first_of short (list_all is_plain_byte bytes) both_of_bytes))
+  short_book = omega (arith, few_lines bytes, short_bytes)
 
   pub plain_lines : list_all (list_all is_plain_byte) (lines_of bytes) ≡ true
   plain_lines = lines_pass is_plain_byte bytes (second_of short (list_all is_plain_byte bytes) both_of_bytes)
