@@ -8,7 +8,7 @@ use Rattle.std.proofs.lemmas.Str.{IsUtf8-from_ascii}
 use Rattle.std.proofs.lemmas.List.Splits.{length-slice_split}
 use Rattle.byte_cuts.specs.Lines.{lines_of}
 use Rattle.byte_cuts.specs.declared.line.TheConstants.{LINE_FEED}
-use Rattle.calc_book.specs.declared.plain.TheConstants.{COMMA, MOST_BYTES, MOST_FIELDS}
+use Rattle.calc_book.specs.declared.limits.TheConstants.{COMMA, MOST_BYTES, MOST_FIELDS}
 use Rattle.calc_book.specs.BookForm.{fields_in, is_plain_byte, is_plain_record, is_plain_book}
 
 both : (a b : Bool) → a ≡ true → b ≡ true → (a && b) ≡ true

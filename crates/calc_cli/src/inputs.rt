@@ -8,15 +8,13 @@ ghost use Rattle.calc_cli.specs.Inputs.{IsLeft, IsLoaded, IsShort, IsTaken, endi
 ghost use Rattle.calc_cli.specs.Runs.{IsEnding, TakesAtMost, Tells};
 
 use crate::input_bytes::{Input, read_all};
+use crate::limits::MOST_SCRIPT_BYTES;
 use calc_addr::NoMemory;
 use calc_book::{BookFault, MOST_BYTES, read_book};
 use calc_io::{Desk, DeviceFault};
 use calc_model::Text;
 use cell_map::CellMap;
 use std::alloc::Global;
-
-/// The most bytes that a script may have.
-pub(crate) const MOST_SCRIPT_BYTES: usize = 16_777_216;
 
 /// What the desk gave.
 #[derive(Drop)]
