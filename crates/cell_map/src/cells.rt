@@ -47,6 +47,7 @@ impl CellMap {
     /// How many cells aren't empty.
     pub fn len(&self) -> usize
         ensures cells { result ≡ length self.now.cells }
+        ensures names { self.now.names ≡ [] }
         ensures book { IsBook self.now }
     {
         self.cells.len()
@@ -107,6 +108,7 @@ impl CellMap {
     pub fn iter(&self) -> Iter<'_, Cell, Content>
         ensures rest { result ≡ self.now.cells }
         ensures found { All (λ entry. content_at self.now entry.0 ≡ entry.1) self.now.cells }
+        ensures names { self.now.names ≡ [] }
         ensures book { IsBook self.now }
     {
         self.cells.iter()
