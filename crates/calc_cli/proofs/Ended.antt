@@ -1,6 +1,5 @@
 -- How the inputs lead to the end of a run.
-use Rattle.std.proofs.Common.{rules, [], ◌≡◌, ℕ, ◌+◌, ◌≤◌, ◌<◌, Bool, true, false, not, ◌&&◌, cond, List, length, take, drop, Option, None, Some, refl, sym, ap, subst, ◌∙◌, arith, nat_lt, nat_le, ◌⊎◌, inl, inr}
-use Rattle.std.specs.Io.KnownBytes.{Keeps}
+use Rattle.std.proofs.Common.{[], ◌≡◌, ℕ, ◌+◌, ◌≤◌, ◌<◌, Bool, true, false, not, ◌&&◌, cond, List, length, take, drop, Option, None, Some, refl, sym, ap, subst, ◌∙◌, arith, nat_lt, nat_le, ◌⊎◌, inl, inr}
 use Rattle.std.proofs.KnownBytes.{Appends-nil}
 use Rattle.std.proofs.lemmas.List.{drop_all}
 use Rattle.std.proofs.lemmas.Bool.{lt-leb, ltb-true, both_ways, leb-true}
@@ -46,9 +45,6 @@ ends_answered book script taken loaded good short loaded_is taken_is =
     ∙ ap (calculated field_of (book_read field_of book)) taken_is
     ∙ ap (by_tests book script true) (sym short)
     ∙ ap (λ b. by_tests book script b (nat_lt MOST_SCRIPT_BYTES (length script))) (sym good)
-
-pub still_told : (old new : Option (List ℕ)) (bytes : List ℕ) → Keeps old new → old ≡ Some bytes → new ≡ Some bytes
-still_told old new bytes kept told = search (rules, kept, told)
 
 -- the bytes taken of a book, up to one more than it may have, tell whether it can be read
 too_big : (book : List ℕ) → MOST_BYTES < length book → is_plain_book book ≡ false
