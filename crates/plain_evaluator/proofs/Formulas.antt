@@ -17,7 +17,7 @@ use Rattle.calc_model.proofs.Areas.{both_true}
 use Rattle.calc_model.proofs.Places.{same_places}
 use Rattle.calc_model.proofs.Reached.{or_second}
 use Rattle.calc_model.proofs.Rounds.{held_entry}
-use Rattle.plain_evaluator.specs.Plain.{AreReaders, no_names, readers_of}
+use Rattle.plain_evaluator.specs.Plain.{AreReaders, IsReader, no_names, readers_of}
 use Rattle.plain_evaluator.proofs.TreeAreas.{no_name_is_defined}
 
 abbrev pub Reading : Type 0
@@ -34,13 +34,16 @@ module _ (book : Book) where
   abbrev pub readings : List (Place × Content) → List Reading
   readings entries = map reading (filter (λ entry. is_formula entry.1) entries)
 
-  each_reads : (entries : List (Place × Content)) → AllByRecursion (λ (reader : Reading). reader.1 ≡ reads book reader.0) (readings entries)
-  each_reads [] = tt
-  each_reads (e ∷ es) =
-      elim (is_formula e.1) as (λ b. AllByRecursion (λ (reader : Reading). reader.1 ≡ reads book reader.0) (map reading (cond b (e ∷ filter (λ entry. is_formula entry.1) es) (filter (λ entry. is_formula entry.1) es)))) [
-        | true ↦ (refl, each_reads es)
-        | false ↦ each_reads es
-      ]
+  abbrev pub AreHeld : List (Place × Content) → Type 0
+  AreHeld entries = AllByRecursion (λ (entry : Place × Content). content_at book entry.0 ≡ entry.1) entries
+
+  each_reads : (entries : List (Place × Content)) → AreHeld entries → AllByRecursion (IsReader book) (readings entries)
+  each_reads [] held = tt
+  each_reads (e ∷ es) held =
+      elim (is_formula e.1) as (λ b. is_formula e.1 ≡ b → AllByRecursion (IsReader book) (map reading (cond b (e ∷ filter (λ entry. is_formula entry.1) es) (filter (λ entry. is_formula entry.1) es)))) [
+        | true ↦ λ formula. (record { formula = ap is_formula held.0 ∙ formula; areas = refl }, each_reads es held.1)
+        | false ↦ λ _. each_reads es held.1
+      ] refl
 
   abbrev reads_here : Place → Reading → Bool
   reads_here q reader = eq_by_cmp place_cmp q reader.0
@@ -61,10 +64,10 @@ module _ (book : Book) where
             ]
       ] refl at
 
-  pub are_readers : AreReaders book (readers_of book)
+  pub are_readers : AreHeld book.cells → AreReaders book (readers_of book)
   unfolding content_at
-  are_readers = record {
-    each = All-from_recursion _ (readers_of book) (each_reads book.cells);
+  are_readers held = record {
+    each = All-from_recursion _ (readers_of book) (each_reads book.cells held);
     every = λ q formula. let entry = held_entry (find place_cmp q book.cells) formula in every_found book.cells q entry.0 entry.1 entry.2;
   }
 
@@ -76,6 +79,15 @@ module _ (book : Book) where
   -- a formula is ready where the areas that it reads are known
   pub ready_by : (results : Results) (reader : Reading) → reader.1 ≡ reads book reader.0 → (areas : List Rectangle) → areas ≡ reader.1 → (known : Bool) → known ≡ all_cells (is_known book results) areas → is_ready book results reader.0 ≡ known
   ready_by results reader read areas same known is = ap (all_cells (is_known book results)) (sym (same ∙ read)) ∙ sym is
+
+  -- a formula that is found among readers is one of them
+  pub reader_at : (P : Reading → Type 0) (readers : List Reading) (q : Place) → AllByRecursion P readers → list_any (reads_here q) readers ≡ true → (reader : Reading) × (reader.0 ≡ q) × P reader
+  reader_at P [] q all any = cc
+  reader_at P (r ∷ rs) q all any =
+      elim (eq_by_cmp place_cmp q r.0) as (λ b. eq_by_cmp place_cmp q r.0 ≡ b → (b || list_any (reads_here q) rs) ≡ true → (reader : Reading) × (reader.0 ≡ q) × P reader) [
+        | true ↦ λ tied _. (r, sym (same_places q r.0 tied), all.0)
+        | false ↦ λ apart later. reader_at P rs q all.1 later
+      ] refl any
 
   -- what each reader passes, each formula passes
   pub readers_all : (test : Place → Bool) (readers : List Reading) (q : Place) → list_all (λ reader. test reader.0) readers ≡ true → list_any (reads_here q) readers ≡ true → test q ≡ true

@@ -24,9 +24,14 @@ no_names name = Absent
 abbrev pub readers_of : Book → List (Place × List Rectangle)
 readers_of book = map (λ entry. (entry.0, reads book entry.0)) (filter (λ entry. is_formula entry.1) book.cells)
 
+-- a formula of the book, with the areas that it reads
+pub record IsReader (book : Book) (reader : Place × List Rectangle) : Type 0 where
+  pub formula : is_formula_cell book reader.0 ≡ true
+  pub areas : reader.1 ≡ reads book reader.0
+
 -- the formulas of a book in any order, each with the areas that it reads
 pub record AreReaders (book : Book) (readers : List (Place × List Rectangle)) : Type 0 where
-  pub each : All (λ reader. reader.1 ≡ reads book reader.0) readers
+  pub each : All (IsReader book) readers
   pub every : (q : Place) → is_formula_cell book q ≡ true → list_any (λ reader. eq_by_cmp place_cmp q reader.0) readers ≡ true
 
 -- the value of a formula at home by these results

@@ -1,5 +1,5 @@
 ghost use Rattle.std.specs.Prelude.{◌≡◌, IfOk};
-ghost use Rattle.plain_evaluator.specs.Plain.{AreReaders, readers_of};
+ghost use Rattle.plain_evaluator.specs.Plain.{AreReaders};
 
 use crate::areas::push_areas;
 use calc_addr::{Area, Cell, NoMemory};
@@ -42,12 +42,12 @@ impl Reader {
 pub fn readers(alloc: Global, cells: &CellMap) -> Result<Vec<Reader>, NoMemory>
     ensures { IfOk result (λ readers. AreReaders cells.now readers.items) }
 {
-    let readers = in_cell_order(alloc, cells)?;
-    Ok(readers)
+    in_cell_order(alloc, cells)
 }
 
+/// The same, in the order of cells.
 fn in_cell_order(alloc: Global, cells: &CellMap) -> Result<Vec<Reader>, NoMemory>
-    ensures { IfOk result (λ readers. readers.items ≡ readers_of cells.now) }
+    ensures { IfOk result (λ readers. AreReaders cells.now readers.items) }
 {
     let mut readers = Vec::new(alloc);
     for (cell, content) in cells.iter() {

@@ -1,9 +1,8 @@
 ghost use Rattle.std.specs.Prelude.{◌≡◌, ◌<◌, true, false, IfOk, OnOk, OnErr};
 ghost use Rattle.calc_model.specs.Eval.{top};
-ghost use Rattle.calc_model.specs.Reads.{reads};
 ghost use Rattle.calc_model.specs.Results.{IsSound, IsFinished, Sets, ShowsAll};
 ghost use Rattle.cell_map.specs.ResultMap.{results_of};
-ghost use Rattle.plain_evaluator.specs.Plain.{AreReaders, known_count, is_settled};
+ghost use Rattle.plain_evaluator.specs.Plain.{AreReaders, IsReader, known_count, is_settled};
 
 use crate::eval::eval;
 use crate::known::are_known;
@@ -46,7 +45,7 @@ fn sweep(cells: &CellMap, readers: &[Reader], results: &mut ResultMap) -> Result
 /// Evaluates a formula that is ready and has no result.
 fn settle(cells: &CellMap, reader: &Reader, results: &mut ResultMap) -> Result<bool, NoMemory>
     requires sound { IsSound cells.now (results_of results.old) }
-    requires reads { reader.now.1 ≡ reads cells.now reader.now.0 }
+    requires reader { IsReader cells.now reader.now }
     ensures sound { OnOk result (IsSound cells.now (results_of results.new)) }
     ensures added { IfOk result (λ added. added ≡ true →
         known_count cells.now (results_of results.old) < known_count cells.now (results_of results.new)) }

@@ -1,11 +1,12 @@
-use Rattle.std.proofs.Common.{◌≡◌, ◌++◌, ap, subst, ◌∙◌}
+use Rattle.std.proofs.Common.{◌≡◌, ◌++◌, append-nil, sym, ap, subst, ◌∙◌}
+use Rattle.std.proofs.lemmas.List.Elements.{recursion_from_All}
 use Rattle.std.specs.List.{AllByRecursion}
 use Rattle.calc_addr.specs.Places.{Place}
 use Rattle.calc_model.specs.declared.content.Content.{Content}
 use Rattle.calc_model.specs.Books.{content_at}
 use Rattle.calc_model.specs.Reads.{areas}
-use Rattle.plain_evaluator.specs.Plain.{no_names, readers_of}
-use Rattle.plain_evaluator.proofs.Formulas.{one_more_formula}
+use Rattle.plain_evaluator.specs.Plain.{AreReaders, no_names, readers_of}
+use Rattle.plain_evaluator.proofs.Formulas.{are_readers, one_more_formula, readings}
 use Rattle.plain_evaluator.proofs.reading.in_cell_order.Goals as goal
 
 pub loop-cell-preserved-in-Continue-branch-2 : goal.loop-cell-preserved-in-Continue-branch-2
@@ -21,3 +22,10 @@ loop-cell-preserved-in-Continue-branch-2 c =
         c.in_ok-push.ensures.items;
       holds = holds.1;
     }
+
+pub returns : goal.returns
+returns c =
+    let book = c.args.cells.now in
+    subst (AreReaders book)
+    (sym (sym (append-nil c.loop-cell.readers.items) ∙ ap (λ rest. c.loop-cell.readers.items ++ readings book rest) (sym c.in-None.ensures.steps.0) ∙ c.loop-cell.invariant.so_far))
+    (are_readers book (recursion_from_All _ _ c.iter-cell-items.ensures.found))

@@ -14,7 +14,7 @@ returns-clause-sound c =
     let results = results_of c.args.results.now in
     let at = rw c.in-Some-Formula.field-0-is at c.in-Some-Formula.ensures.content in
     let ready : is_ready book results c.cell-cell.result ≡ true =
-    ap (is_ready book results) c.cell-cell.ensures ∙ ready_by book results c.args.reader.now c.requires.reads c.areas.result.now c.areas.ensures c.are_known.result c.are_known.ensures ∙ c.if-not-are_known.false in
+    ap (is_ready book results) c.cell-cell.ensures ∙ ready_by book results c.args.reader.now c.requires.reader.areas c.areas.result.now c.areas.ensures c.are_known.result c.are_known.ensures ∙ c.if-not-are_known.false in
     sound_with book results c.requires.sound (results_of c.set.new.self) c.cell-cell.result c.in-Some-Formula.formula at ready
     (subst (Sets results (results_of c.set.new.self) c.cell-cell.result) (c.top-value.ensures ∙ ap top (c.eval.ensures ∙ ap (value_by book results c.cell-cell.result) c.tree.ensures.value)) c.in_ok-set.ensures.ok)
 

@@ -1,16 +1,14 @@
-use Rattle.std.proofs.Common.{◌≡◌, sym, subst}
-use Rattle.calc_model.specs.Reads.{reads}
+use Rattle.std.proofs.Common.{sym, subst}
 use Rattle.cell_map.specs.ResultMap.{results_of}
 use Rattle.calc_model.specs.Results.{IsFinished}
-use Rattle.plain_evaluator.specs.Plain.{is_settled}
-use Rattle.plain_evaluator.proofs.Formulas.{Reading, all_dropped}
+use Rattle.plain_evaluator.specs.Plain.{IsReader, is_settled}
+use Rattle.plain_evaluator.proofs.Formulas.{all_dropped}
 use Rattle.plain_evaluator.proofs.Sweeps.{finished}
 use Rattle.plain_evaluator.proofs.sweep.sweep.Goals as goal
 
-pub settle-requires-clause-reads : goal.settle-requires-clause-reads
-settle-requires-clause-reads c =
-    subst (λ (reader : Reading). reader.1 ≡ reads c.args.cells.now reader.0) (sym c.reader-item.is)
-    (c.requires.readers.each c.loop-reader.reader-index c.reader-item.result c.loop-reader-test.true)
+pub settle-requires-clause-reader : goal.settle-requires-clause-reader
+settle-requires-clause-reader c =
+    subst (IsReader c.args.cells.now) (sym c.reader-item.is) (c.requires.readers.each c.loop-reader.reader-index c.reader-item.result c.loop-reader-test.true)
 
 pub returns-clause-finished : goal.returns-clause-finished
 returns-clause-finished c = λ none.
