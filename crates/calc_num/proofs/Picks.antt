@@ -1,17 +1,20 @@
 -- What a way of rounding picks, and what a division rounded down or cut leaves.
-use Rattle.std.proofs.Common.{◌≡◌, ℕ, zero, suc, ◌+◌, ◌-◌, ◌*◌, ◌/◌, ◌%◌, ◌^◌, ◌<◌, ◌≤◌, min, Bool, true, false, not, if◌then◌else◌, ℤ, pos, negsuc, neg_ℤ, nat_abs, int_le, ◌*ℤ◌, Result, Ok, Err, inl, inr, refl, ap, ◌∙◌, sym, arith}
+use Rattle.std.proofs.Common.{◌≡◌, ℕ, zero, suc, ◌+◌, ◌-◌, ◌*◌, ◌/◌, ◌%◌, ◌^◌, ◌<◌, ◌≤◌, min, eqb, Bool, true, false, not, if◌then◌else◌, ℤ, pos, negsuc, neg_ℤ, nat_abs, int_le, ◌*ℤ◌, Result, Ok, Err, inl, inr, refl, ap, ◌∙◌, sym, arith}
 use mathlib.Core.Bool.{beq}
+use lib.Dec.{leb}
+use Rattle.std.proofs.Math.Dec.{eqb-suc-zero}
 use lib.Signed.{lt_z}
 use Rattle.std.proofs.Math.Nat.{mul-add-div_right, div-eq_of_lt, min-eq_left, min-eq_right, pow-le-pow_right, mod-eq_of_lt}
-use Rattle.std.proofs.lemmas.Bool.{cases_lt, cond-false, le-ltb}
+use Rattle.std.proofs.lemmas.Bool.{cases_lt, cond-true, cond-false, le-ltb, le-leb, lt-leb}
 use Rattle.std.proofs.lemmas.Int.{ints}
-use Rattle.std.proofs.lemmas.Nat.{div-add-mod', mod_below, mod-mul-add}
+use Rattle.std.proofs.lemmas.Nat.{div-add-mod', div-mul-add, mod_below, mod-mul-add}
 use Rattle.calc_num.specs.declared.num.NumFault.{NumFault}
 use Rattle.calc_num.specs.declared.num.NumFault.TheVariants.{Over}
 use Rattle.calc_num.specs.declared.rounding.Way.{Way}
 use Rattle.calc_num.specs.declared.rounding.Way.TheVariants.{Nearest, Away, Toward, Floor}
-use Rattle.calc_num.specs.Decimals.{rounded, checked, with_sign, pick, rounding, remainder, whole_quotient, fewer_than_nine}
-use Rattle.calc_num.proofs.Signs.{not_below_zero, is_raw-sign, times-sign}
+use Rattle.calc_num.specs.Decimals.{rounded, nearest, checked, with_sign, pick, round_to, floor_mod, quotient, fewer_than_nine}
+use Rattle.calc_num.proofs.Scale.{rounded-below_half, rounded-from_half}
+use Rattle.calc_num.proofs.Signs.{nearest-sign, not_below_zero, is_raw-sign, times-sign}
 
 -- rounding up is one more than the quotient of what is below
 up : (n unit : ℕ) → 0 < unit → (suc n + (unit - 1)) / unit ≡ suc (n / unit)
@@ -26,10 +29,52 @@ none_up unit some = div-eq_of_lt {n = 0 + (unit - 1)} {m = unit} (omega arith)
 none_down : (n unit : ℕ) → n < unit → n / unit ≡ 0
 none_down n unit small = div-eq_of_lt {n = n} {m = unit} small
 
-pub pick-floor_negative : (size unit : ℕ) → 0 < unit → neg_ℤ (pos ((size + (unit - 1)) / unit)) ≡ pick Floor (neg_ℤ (pos size)) unit
+pick-floor_negative : (size unit : ℕ) → 0 < unit → neg_ℤ (pos ((size + (unit - 1)) / unit)) ≡ pick Floor (neg_ℤ (pos size)) unit
 pick-floor_negative zero unit some =
     ap (λ k. neg_ℤ (pos k)) (none_up unit some) ∙ ap pos (sym (none_down 0 unit some))
 pick-floor_negative (suc n) unit some = ap (λ k. neg_ℤ (pos k)) (up n unit some)
+
+-- the sign may be put before or behind the other ways of rounding too
+pick-away_sign : (negative : Bool) (size unit : ℕ) → 0 < unit → pick Away (with_sign negative size) unit ≡ with_sign negative ((size + (unit - 1)) / unit)
+pick-away_sign false size unit some = refl
+pick-away_sign true zero unit some = ap pos (none_up unit some) ∙ ap (λ k. neg_ℤ (pos k)) (sym (none_up unit some))
+pick-away_sign true (suc n) unit some = refl
+
+pick-toward_sign : (negative : Bool) (size unit : ℕ) → 0 < unit → pick Toward (with_sign negative size) unit ≡ with_sign negative (size / unit)
+pick-toward_sign false size unit some = refl
+pick-toward_sign true zero unit some = ap pos (none_down 0 unit some) ∙ ap (λ k. neg_ℤ (pos k)) (sym (none_down 0 unit some))
+pick-toward_sign true (suc n) unit some = refl
+
+-- so many units and a rest are rounded up to one more where the rest is some
+round_up : (count rest unit : ℕ) → rest < unit → (count * unit + rest + (unit - 1)) / unit ≡ (if not (eqb rest 0) then count + 1 else count)
+round_up count zero unit small =
+    let whole : count * unit + 0 + (unit - 1) ≡ count * unit + (unit - 1) = omega arith in
+    ap (λ k. k / unit) whole ∙ div-mul-add count unit (unit - 1) (omega arith)
+round_up count (suc rest) unit small =
+    let whole : count * unit + suc rest + (unit - 1) ≡ (count + 1) * unit + rest = omega arith in
+    ap (λ k. k / unit) whole ∙ div-mul-add (count + 1) unit rest (omega arith) ∙ sym (cond-true (not (eqb (suc rest) 0)) (count + 1) count (ap not (eqb-suc-zero rest)))
+
+-- what each way picks for so many units and a rest
+pub one_more-nearest : (negative : Bool) (count rest unit : ℕ) → rest < unit → with_sign negative (if leb unit (2 * rest) then count + 1 else count) ≡ nearest (with_sign negative (count * unit + rest)) unit
+one_more-nearest negative count rest unit small =
+    ap (with_sign negative) (elim (cases_lt (2 * rest) unit) [
+      | inl below ↦
+          cond-false (leb unit (2 * rest)) (count + 1) count (lt-leb unit (2 * rest) below) ∙ sym (rounded-below_half count rest unit below)
+      | inr above ↦
+          cond-true (leb unit (2 * rest)) (count + 1) count (le-leb unit (2 * rest) above) ∙ sym (rounded-from_half count rest unit small above)
+    ]) ∙ sym (nearest-sign negative (count * unit + rest) unit (omega arith))
+
+pub one_more-away : (negative : Bool) (count rest unit : ℕ) → rest < unit → with_sign negative (if not (eqb rest 0) then count + 1 else count) ≡ pick Away (with_sign negative (count * unit + rest)) unit
+one_more-away negative count rest unit small =
+    ap (with_sign negative) (sym (round_up count rest unit small)) ∙ sym (pick-away_sign negative (count * unit + rest) unit (omega arith))
+
+pub one_more-toward : (negative : Bool) (count rest unit : ℕ) → rest < unit → with_sign negative count ≡ pick Toward (with_sign negative (count * unit + rest)) unit
+one_more-toward negative count rest unit small =
+    ap (with_sign negative) (sym (div-mul-add count unit rest small)) ∙ sym (pick-toward_sign negative (count * unit + rest) unit (omega arith))
+
+pub one_more-floor : (count rest unit : ℕ) → rest < unit → neg_ℤ (pos (if not (eqb rest 0) then count + 1 else count)) ≡ pick Floor (neg_ℤ (pos (count * unit + rest))) unit
+one_more-floor count rest unit small =
+    ap (λ k. neg_ℤ (pos k)) (sym (round_up count rest unit small)) ∙ pick-floor_negative (count * unit + rest) unit (omega arith)
 
 -- beyond every number the unit doesn't matter: each way picks 0, or one unit that is out of range
 gone : (negative : Bool) (count unit : ℕ) → count ≡ 0 → checked (with_sign negative count *ℤ pos unit) ≡ Ok (pos 0)
@@ -81,8 +126,8 @@ pick-far way n places small =
           ap (λ k. checked (pick way n (10 ^ k) *ℤ pos (10 ^ k))) (min-eq_right {n = 28} {m = places} above) ∙ is_far way n (10 ^ 28) small (omega arith) ∙ sym (is_far way n (10 ^ places) small (pow-le-pow_right {n = 10} (omega arith) {i = 28} {j = places} above))
     ]
 
-pub rounding-sizes : (way : Way) (digits n : ℤ) (count : ℕ) → nat_abs n < 10 ^ 27 → int_le (pos 9) digits ≡ false → with_sign (lt_z n (pos 0)) count ≡ pick way n (10 ^ min (fewer_than_nine digits) 28) → checked (with_sign (lt_z n (pos 0)) (count * 10 ^ min (fewer_than_nine digits) 28)) ≡ rounding way digits n
-rounding-sizes way digits n count small fewer picks =
+pub round_to-sizes : (way : Way) (digits n : ℤ) (count : ℕ) → nat_abs n < 10 ^ 27 → int_le (pos 9) digits ≡ false → with_sign (lt_z n (pos 0)) count ≡ pick way n (10 ^ min (fewer_than_nine digits) 28) → checked (with_sign (lt_z n (pos 0)) (count * 10 ^ min (fewer_than_nine digits) 28)) ≡ round_to way digits n
+round_to-sizes way digits n count small fewer picks =
     let places = fewer_than_nine digits in
     let unit = 10 ^ min places 28 in
     ap checked (times-sign (lt_z n (pos 0)) count unit ∙ ap (λ k. k *ℤ pos unit) picks) ∙ pick-far way n places small ∙ sym (cond-false (int_le (pos 9) digits) (Ok n) (checked (pick way n (10 ^ places) *ℤ pos (10 ^ places))) fewer)
@@ -111,31 +156,31 @@ zero_rest d some =
     let whole : d - 0 ≡ 1 * d + 0 = omega arith in
     ap (λ k. (d - k) % d) (mod-eq_of_lt {n = 0} {m = d} some) ∙ ap (λ k. k % d) whole ∙ mod-mul-add 1 d 0 some
 
-pub remainder-sizes : (n m : ℤ) → (nat_abs m ≡ 0 → ⊥) → Ok (with_sign (lt_z m (pos 0)) (if not (beq (lt_z n (pos 0)) (lt_z m (pos 0))) then (nat_abs m - nat_abs n % nat_abs m) % nat_abs m else nat_abs n % nat_abs m)) ≡ remainder n m
-remainder-sizes n (pos zero) some = absurd (some refl)
-remainder-sizes (pos n) (pos (suc m)) some =
+pub floor_mod-sizes : (n m : ℤ) → (nat_abs m ≡ 0 → ⊥) → Ok (with_sign (lt_z m (pos 0)) (if not (beq (lt_z n (pos 0)) (lt_z m (pos 0))) then (nat_abs m - nat_abs n % nat_abs m) % nat_abs m else nat_abs n % nat_abs m)) ≡ floor_mod n m
+floor_mod-sizes n (pos zero) some = absurd (some refl)
+floor_mod-sizes (pos n) (pos (suc m)) some =
     let parts = div-add-mod' n (suc m) in
     rw (not_below_zero n, not_below_zero (suc m)) (ap Ok (omega (arith, ints)))
-remainder-sizes (negsuc n) (pos (suc m)) some =
+floor_mod-sizes (negsuc n) (pos (suc m)) some =
     let parts = div-add-mod' n (suc m) in
     let small = mod_below n (suc m) (omega arith) in
     rw (not_below_zero (suc m), opposite_rest n (suc m) (omega arith)) (ap Ok (omega (arith, ints)))
-remainder-sizes (pos zero) (negsuc m) some =
+floor_mod-sizes (pos zero) (negsuc m) some =
     let none = none_down 0 (suc m) (omega arith) in
     rw (zero_rest (suc m) (omega arith), none) (ap Ok (omega (arith, ints)))
-remainder-sizes (pos (suc n)) (negsuc m) some =
+floor_mod-sizes (pos (suc n)) (negsuc m) some =
     let parts = div-add-mod' n (suc m) in
     let small = mod_below n (suc m) (omega arith) in
     rw (not_below_zero (suc n), opposite_rest n (suc m) (omega arith)) (ap Ok (omega (arith, ints)))
-remainder-sizes (negsuc n) (negsuc m) some =
+floor_mod-sizes (negsuc n) (negsuc m) some =
     let parts = div-add-mod' (suc n) (suc m) in
     ap Ok (omega (arith, ints))
 
 -- a cut quotient
-pub whole_quotient-sizes : (n m : ℤ) → (nat_abs m ≡ 0 → ⊥) → checked (with_sign (not (beq (lt_z n (pos 0)) (lt_z m (pos 0)))) (nat_abs n / nat_abs m * 10 ^ 9)) ≡ whole_quotient n m
-whole_quotient-sizes n (pos zero) some = absurd (some refl)
-whole_quotient-sizes (pos n) (pos (suc m)) some = rw (not_below_zero n, not_below_zero (suc m)) refl
-whole_quotient-sizes (negsuc n) (pos (suc m)) some =
+pub quotient-sizes : (n m : ℤ) → (nat_abs m ≡ 0 → ⊥) → checked (with_sign (not (beq (lt_z n (pos 0)) (lt_z m (pos 0)))) (nat_abs n / nat_abs m * 10 ^ 9)) ≡ quotient n m
+quotient-sizes n (pos zero) some = absurd (some refl)
+quotient-sizes (pos n) (pos (suc m)) some = rw (not_below_zero n, not_below_zero (suc m)) refl
+quotient-sizes (negsuc n) (pos (suc m)) some =
     rw (not_below_zero (suc m)) (ap checked (times-sign true (suc n / suc m) (10 ^ 9)))
-whole_quotient-sizes (pos n) (negsuc m) some = rw (not_below_zero n) (ap checked (times-sign true (n / suc m) (10 ^ 9)))
-whole_quotient-sizes (negsuc n) (negsuc m) some = refl
+quotient-sizes (pos n) (negsuc m) some = rw (not_below_zero n) (ap checked (times-sign true (n / suc m) (10 ^ 9)))
+quotient-sizes (negsuc n) (negsuc m) some = refl

@@ -2,9 +2,9 @@
 use Rattle.std.proofs.Common.{◌≡◌, ℕ, zero, suc, ◌+◌, ◌*◌, ◌/◌, ◌%◌, ◌^◌, ◌<◌, ◌≤◌, min, true, false, not, ℤ, pos, negsuc, nat_abs, refl, ap, ◌∙◌, sym, arith}
 use mathlib.Core.Bool.{beq}
 use lib.Signed.{lt_z}
-use Rattle.std.proofs.Math.Nat.{mul-add-div_right, mul-div-mul_left}
+use Rattle.std.proofs.Math.Nat.{mul-add-div_right, mul-add-mod_self_right, mul-div-mul_left}
 use Rattle.std.proofs.lemmas.Nat.{div-add-mod'}
-use Rattle.calc_num.specs.Decimals.{rounded, nearest, checked, with_sign, quotient}
+use Rattle.calc_num.specs.Decimals.{rounded, nearest, checked, with_sign, div}
 use Rattle.calc_num.proofs.Scale.{rounded-scaled}
 use Rattle.calc_num.proofs.Signs.{not_below_zero, neg-neg, checked-rounded}
 
@@ -49,13 +49,27 @@ rounded-reduced a b u v some whole =
     let bottom : b ≡ u * (b / u) = sym (div-add-mod' b u) ∙ rw whole (omega arith) in
     rw top (ap (rounded (u * (a * v))) bottom ∙ rounded-scaled u (a * v) (b / u) some)
 
-pub quotient-sizes : (n m : ℤ) → (nat_abs m ≡ 0 → ⊥) → checked (with_sign (not (beq (lt_z n (pos 0)) (lt_z m (pos 0)))) (min (rounded (nat_abs n * 10 ^ 9) (nat_abs m)) (10 ^ 27))) ≡ quotient n m
-quotient-sizes n (pos zero) some = absurd (some refl)
-quotient-sizes (pos n) (pos (suc m)) some =
+pub div-sizes : (n m : ℤ) → (nat_abs m ≡ 0 → ⊥) → checked (with_sign (not (beq (lt_z n (pos 0)) (lt_z m (pos 0)))) (min (rounded (nat_abs n * 10 ^ 9) (nat_abs m)) (10 ^ 27))) ≡ div n m
+div-sizes n (pos zero) some = absurd (some refl)
+div-sizes (pos n) (pos (suc m)) some =
     rw (not_below_zero n, not_below_zero (suc m)) (checked-rounded false (n * 10 ^ 9) (suc m) (omega arith))
-quotient-sizes (negsuc n) (pos (suc m)) some =
+div-sizes (negsuc n) (pos (suc m)) some =
     rw (not_below_zero (suc m)) (checked-rounded true (suc n * 10 ^ 9) (suc m) (omega arith))
-quotient-sizes (pos n) (negsuc m) some =
+div-sizes (pos n) (negsuc m) some =
     rw (not_below_zero n) (checked-rounded true (n * 10 ^ 9) (suc m) (omega arith))
-quotient-sizes (negsuc n) (negsuc m) some =
+div-sizes (negsuc n) (negsuc m) some =
     checked-rounded false (suc n * 10 ^ 9) (suc m) (omega arith) ∙ ap (λ p. checked (nearest p (suc m))) (sym (neg-neg (suc n * 10 ^ 9)))
+
+-- a division in two steps: of the front alone, and of what that leaves with the last part behind it
+split_parts : (s d w : ℕ) → s / w / d * w * d + (s / w % d * w + s % w) ≡ s
+split_parts s d w =
+    let front : s / w / d * w * d + s / w % d * w ≡ (s / w / d * d + s / w % d) * w = omega arith in
+    omega (arith, front, ap (λ n. n * w) (div-add-mod' (s / w) d), div-add-mod' s w)
+
+pub divide-split : (s d w : ℕ) → 0 < d → s / w / d * w + (s / w % d * w + s % w) / d ≡ s / d
+divide-split s d w some =
+    sym (mul-add-div_right {m = d} some (s / w / d * w) (s / w % d * w + s % w)) ∙ ap (λ n. n / d) (split_parts s d w)
+
+pub mod-split : (s d w : ℕ) → (s / w % d * w + s % w) % d ≡ s % d
+mod-split s d w =
+    sym (mul-add-mod_self_right (s / w / d * w) d (s / w % d * w + s % w)) ∙ ap (λ n. n % d) (split_parts s d w)

@@ -1,10 +1,10 @@
 -- The least number that passes a test, and the least root.
-use Rattle.std.proofs.Common.{◌≡◌, ℕ, zero, suc, ◌+◌, ◌-◌, ◌*◌, ◌/◌, ◌^◌, ◌<◌, ◌≤◌, Bool, true, false, ℤ, pos, negsuc, unsigned_abs, Ok, inl, inr, ap, ◌∙◌, sym, arith}
+use Rattle.std.proofs.Common.{◌≡◌, ℕ, zero, suc, ◌+◌, ◌-◌, ◌*◌, ◌^◌, ◌<◌, ◌≤◌, Bool, true, false, ℤ, pos, negsuc, unsigned_abs, Ok, inl, inr, ap, ◌∙◌, sym, arith}
 use lib.Signed.{lt_z}
 use Rattle.std.proofs.Math.Nat.{pow-suc, one-le-pow}
 use Rattle.std.proofs.lemmas.Bool.{cond-true, cond-false, false≢true, cases_lt, lt-ltb, le-ltb}
 use Rattle.std.proofs.lemmas.Nat.{mul-le}
-use Rattle.calc_num.specs.Decimals.{least, is_past_root, square_root, IsLeastRoot}
+use Rattle.calc_num.specs.Decimals.{least, is_past_root, sqrt, IsLeastRoot}
 
 -- halving finds the number from which on a test passes
 pub least-is : (test : ℕ → Bool) (low halvings n : ℕ) → low ≤ n → n < low + 2 ^ halvings → ((k : ℕ) → k < n → test k ≡ false) → ((k : ℕ) → n ≤ k → test k ≡ true) → least test low halvings ≡ n
@@ -21,34 +21,46 @@ least-is test low (suc halvings) n from within below above =
           ap (λ from. least test from halvings) (cond-true (test middle) low (low + 2 ^ halvings) (above middle here)) ∙ least-is test low halvings n from (omega arith) below above
     ]
 
-not_past : (n s k : ℕ) → s * s ≤ 4 * n * 10 ^ 9 → k < (s + 1) / 2 → (2 * k + 1) * (2 * k + 1) ≤ 4 * n * 10 ^ 9
-not_past n s k square below =
-    omega (arith, mul-le (2 * k + 1) (2 * k + 1) s s (omega arith) (omega arith))
-
-past : (n s k : ℕ) → 4 * n * 10 ^ 9 < (s + 1) * (s + 1) → (s + 1) / 2 ≤ k → 4 * n * 10 ^ 9 < (2 * k + 1) * (2 * k + 1)
-past n s k square above =
-    omega (arith, mul-le (s + 1) (s + 1) (2 * k + 1) (2 * k + 1) (omega arith) (omega arith))
-
-within_halvings : (n s : ℕ) → n < 10 ^ 27 → s * s ≤ 4 * n * 10 ^ 9 → (s + 1) / 2 < 2 ^ 60
-within_halvings n s small square =
-    elim (cases_lt (s + 1) (2 ^ 61)) [
-      | inl below ↦ omega arith
-      | inr above ↦ absurd (omega (arith, mul-le (2 ^ 61 - 1) (2 ^ 61 - 1) s s (omega arith) (omega arith)))
+-- a number whose product with the next is below a square is below 2^60
+pub below_root : (square root : ℕ) → square < 10 ^ 36 → root * (root + 1) < square → root < 2 ^ 60
+below_root square root small under =
+    elim (cases_lt root (2 ^ 60)) [
+      | inl below ↦ below
+      | inr above ↦ absurd (omega (arith, mul-le (2 ^ 60) (2 ^ 60) root root above above))
     ]
 
-pub least_root-is : (n s : ℕ) → n < 10 ^ 27 → s * s ≤ 4 * n * 10 ^ 9 → 4 * n * 10 ^ 9 < (s + 1) * (s + 1) → least (is_past_root n) 0 60 ≡ (s + 1) / 2
-least_root-is n s small square next =
-    least-is (is_past_root n) 0 60 ((s + 1) / 2) (omega arith) (within_halvings n s small square) (λ k below. le-ltb (4 * n * 10 ^ 9) ((2 * k + 1) * (2 * k + 1)) (not_past n s k square below)) (λ k above. lt-ltb (4 * n * 10 ^ 9) ((2 * k + 1) * (2 * k + 1)) (past n s k next above))
+-- where a number's product with the one before it is below a square, no root of it is less
+pub least_root-from : (square root r : ℕ) → root * root < square + root → square ≤ r * (r + 1) → root ≤ r
+least_root-from square zero r under past = omega arith
+least_root-from square (suc k) r under past =
+    elim (cases_lt r (suc k)) [
+      | inl below ↦ absurd (omega (arith, mul-le r (r + 1) k (k + 1) (omega arith) (omega arith)))
+      | inr above ↦ above
+    ]
 
-pub square_root-is : (z : ℤ) (s : ℕ) → lt_z z (pos 0) ≡ false → unsigned_abs z < 10 ^ 27 → s * s ≤ 4 * unsigned_abs z * 10 ^ 9 → 4 * unsigned_abs z * 10 ^ 9 < (s + 1) * (s + 1) → Ok (pos ((s + 1) / 2)) ≡ square_root z
-square_root-is (pos n) s not_below small square next = ap (λ r. Ok (pos r)) (sym (least_root-is n s small square next))
-square_root-is (negsuc n) s not_below small square next = absurd (false≢true (sym not_below))
+-- the test of a root, and the root's whole product with the next number
+past-from : (n r : ℕ) → n * 10 ^ 9 ≤ r * (r + 1) → 4 * n * 10 ^ 9 < (2 * r + 1) * (2 * r + 1)
+past-from n r past = omega arith
 
-pub IsLeastRoot-from_root : (z : ℤ) (s : ℕ) → s * s ≤ 4 * unsigned_abs z * 10 ^ 9 → 4 * unsigned_abs z * 10 ^ 9 < (s + 1) * (s + 1) → IsLeastRoot z (pos ((s + 1) / 2))
-IsLeastRoot-from_root z s square next = record {
-  past = past (unsigned_abs z) s ((s + 1) / 2) next (omega arith);
-  least = λ r beyond. elim (cases_lt r ((s + 1) / 2)) [
-    | inl below ↦ absurd (omega (arith, not_past (unsigned_abs z) s r square below))
-    | inr above ↦ above
-  ];
+from-past : (n r : ℕ) → 4 * n * 10 ^ 9 < (2 * r + 1) * (2 * r + 1) → n * 10 ^ 9 ≤ r * (r + 1)
+from-past n r past = omega arith
+
+-- what makes a number the root
+pub IsLeastRoot-from : (z : ℤ) (root : ℕ) → unsigned_abs z * 10 ^ 9 ≤ root * (root + 1) → ((r : ℕ) → unsigned_abs z * 10 ^ 9 ≤ r * (r + 1) → root ≤ r) → IsLeastRoot z (pos root)
+IsLeastRoot-from z root past least = record {
+  past = past-from (unsigned_abs z) root past;
+  least = λ r beyond. least r (from-past (unsigned_abs z) r beyond);
 }
+
+least_root-is : (n root : ℕ) → n < 10 ^ 27 → n * 10 ^ 9 ≤ root * (root + 1) → ((r : ℕ) → n * 10 ^ 9 ≤ r * (r + 1) → root ≤ r) → least (is_past_root n) 0 60 ≡ root
+least_root-is n root small past least =
+    least-is (is_past_root n) 0 60 root (omega arith) (omega (arith, least (2 ^ 60 - 1) (omega arith)))
+    (λ k below. elim (cases_lt (4 * n * 10 ^ 9) ((2 * k + 1) * (2 * k + 1))) [
+      | inl beyond ↦ absurd (omega (arith, least k (from-past n k beyond)))
+      | inr under ↦ le-ltb (4 * n * 10 ^ 9) ((2 * k + 1) * (2 * k + 1)) under
+    ])
+    (λ k above. lt-ltb (4 * n * 10 ^ 9) ((2 * k + 1) * (2 * k + 1)) (past-from n k (omega (arith, mul-le root (root + 1) k (k + 1) above (omega arith)))))
+
+pub sqrt-is : (z : ℤ) (root : ℕ) → lt_z z (pos 0) ≡ false → unsigned_abs z < 10 ^ 27 → unsigned_abs z * 10 ^ 9 ≤ root * (root + 1) → ((r : ℕ) → unsigned_abs z * 10 ^ 9 ≤ r * (r + 1) → root ≤ r) → Ok (pos root) ≡ sqrt z
+sqrt-is (pos n) root not_below small past least = ap (λ r. Ok (pos r)) (sym (least_root-is n root small past least))
+sqrt-is (negsuc n) root not_below small past least = absurd (false≢true (sym not_below))

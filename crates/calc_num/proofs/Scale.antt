@@ -11,7 +11,7 @@ use Rattle.std.proofs.lemmas.List.Sums.{fold-append}
 use Rattle.calc_num.specs.Decimals.{rounded}
 use Rattle.calc_num.specs.Scaling.{worth}
 use Rattle.calc_num.specs.Spelling.{digits_number}
-use Rattle.calc_num.specs.declared.parse.TheConstants.{POWERS}
+use Rattle.calc_num.specs.declared.tens.TheConstants.{POWERS}
 
 pub power_some : (k : ℕ) → 1 ≤ 10 ^ k
 power_some k = one-le-pow k 10 (omega arith)

@@ -7,6 +7,7 @@ ghost use Rattle.calc_num.specs.Scaling.{near, worth, size_of, size_reading};
 ghost use Rattle.calc_num.specs.Spelling.{front_digits, behind_digits, fraction_digits, behind_fraction, is_negative, behind_sign, digits_number, whole_number, signed_whole, exponent, unsigned, reading};
 
 use crate::num::{LIMIT, Num};
+use crate::tens::{power_of_ten, with_zeros};
 
 /// Exponents of this size and more aren't told apart: no text has so many digits.
 const FAR: u128 = 100_000_000_000_000_000_000;
@@ -198,7 +199,7 @@ impl Partial {
         if places >= 27 {
             return LIMIT;
         }
-        let size = self.size.checked_mul(10u128.pow(places as u32));
+        let size = self.size.checked_mul(power_of_ten(places as usize));
         size.map_or(LIMIT, |size| size.min(LIMIT))
     }
 }
@@ -238,39 +239,6 @@ fn long_size(whole: &[u8], fraction: &[u8], exponent: i128) -> u128
             start.push_all(whole).push_all(fraction).finish()
         }
     }
-}
-
-/// Ten to the powers 0 to 18.
-static POWERS: [u64; 19] = [
-    1,
-    10,
-    100,
-    1_000,
-    10_000,
-    100_000,
-    1_000_000,
-    10_000_000,
-    100_000_000,
-    1_000_000_000,
-    10_000_000_000,
-    100_000_000_000,
-    1_000_000_000_000,
-    10_000_000_000_000,
-    100_000_000_000_000,
-    1_000_000_000_000_000,
-    10_000_000_000_000_000,
-    100_000_000_000_000_000,
-    1_000_000_000_000_000_000,
-];
-
-/// A number of less than 19 digits with so many zeros behind it.
-fn with_zeros(number: u64, zeros: usize) -> u128
-    requires number { number < 10 ^ 18 }
-    requires zeros { zeros ≤ 18 }
-    ensures value { result ≡ number * 10 ^ zeros }
-    ensures small { result < 10 ^ 36 }
-{
-    number as u128 * POWERS[zeros] as u128
 }
 
 /// How many places stand between the shifted point and the cut. None where these are far apart.
