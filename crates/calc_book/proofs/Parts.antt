@@ -1,11 +1,14 @@
 -- The parts of a text have their bytes from it, and there are no more lines than bytes.
-use Rattle.std.proofs.Common.{◌≡◌, ℕ, ◌+◌, ◌<◌, ◌≤◌, ◌==◌, ◌&&◌, not, nat_lt, Bool, true, false, cond, nat_le, List, [], ◌∷◌, zero, suc, length, get_or, refl, arith}
+use Rattle.std.proofs.Common.{◌≡◌, ℕ, ◌+◌, ◌<◌, ◌≤◌, ◌==◌, ◌&&◌, not, nat_lt, Bool, true, false, cond, nat_le, List, [], ◌∷◌, zero, suc, length, get_or, map, max, sum, ◌*◌, refl, arith}
 use Rattle.std.proofs.lemmas.Bool.{leb-true}
 use Rattle.std.specs.List.{list_all, onto_first, slice_split}
 use Rattle.std.specs.Str.{IsUtf8}
 use Rattle.std.proofs.lemmas.Bool.Decides.{nat_tests}
 use Rattle.std.proofs.lemmas.Str.{IsUtf8-from_ascii}
-use Rattle.calc_script.specs.Lines.{lines_of}
+use Rattle.std.proofs.lemmas.List.Splits.{length-slice_split}
+use Rattle.byte_cuts.specs.Lines.{lines_of}
+use Rattle.byte_cuts.specs.declared.line.TheConstants.{LINE_FEED}
+use Rattle.calc_book.specs.declared.limits.TheConstants.{COMMA, MOST_BYTES, MOST_FIELDS}
 use Rattle.calc_book.specs.BookForm.{fields_in, is_plain_byte, is_plain_record, is_plain_book}
 
 both : (a b : Bool) → a ≡ true → b ≡ true → (a && b) ≡ true
@@ -39,7 +42,7 @@ module _ (p : ℕ → Bool) where
 
   pub lines_pass : (xs : List ℕ) → list_all p xs ≡ true → list_all (list_all p) (lines_of xs) ≡ true
   lines_pass [] h = refl
-  lines_pass (x ∷ xs) h = one_more x (lines_of xs) (x == 10) (first_of (p x) (list_all p xs) h) (lines_pass xs (second_of (p x) (list_all p xs) h))
+  lines_pass (x ∷ xs) h = one_more x (lines_of xs) (x == LINE_FEED) (first_of (p x) (list_all p xs) h) (lines_pass xs (second_of (p x) (list_all p xs) h))
 
 onto_length : (x n : ℕ) (parts : List (List ℕ)) (ends : Bool) → length parts ≤ n → length (cond ends ([] ∷ parts) (onto_first x parts)) ≤ n + 1
 onto_length x n parts true h = omega (arith, h)
@@ -48,12 +51,62 @@ onto_length x n (part ∷ parts) false h = omega (arith, h)
 
 pub few_lines : (xs : List ℕ) → length (lines_of xs) ≤ length xs
 few_lines [] = omega arith
-few_lines (x ∷ xs) = omega (arith, onto_length x (length xs) (lines_of xs) (x == 10) (few_lines xs))
+few_lines (x ∷ xs) = omega (arith, onto_length x (length xs) (lines_of xs) (x == LINE_FEED) (few_lines xs))
+
+-- how many fields the records have
+abbrev pub field_count : List (List ℕ) → ℕ
+field_count records = sum (map (λ text. length (fields_in text)) records)
+
+longer_field : (x : ℕ) (parts : List (List ℕ)) (ends : Bool) → length (cond ends ([] ∷ parts) (onto_first x parts)) ≤ 1 + max 1 (length parts)
+longer_field x parts true = omega arith
+longer_field x [] false = omega arith
+longer_field x (part ∷ parts) false = omega arith
+
+one_field : (xs : List ℕ) → 1 ≤ length (fields_in xs)
+one_field xs = omega (arith, length-slice_split (λ byte. byte == COMMA) xs)
+
+longer_record : (x : ℕ) (xs : List ℕ) → length (fields_in (x ∷ xs)) ≤ 1 + length (fields_in xs)
+longer_record x xs = omega (arith, longer_field x (fields_in xs) (x == COMMA), one_field xs)
+
+onto_count : (x : ℕ) (records : List (List ℕ)) (ends : Bool) → field_count (cond ends ([] ∷ records) (onto_first x records)) ≤ field_count records + 2
+onto_count x records true = omega arith
+onto_count x [] false = omega (arith, longer_record x [])
+onto_count x (record' ∷ records) false = omega (arith, longer_record x record')
+
+-- there are at most twice as many fields as bytes
+pub few_fields_in_all : (xs : List ℕ) → field_count (lines_of xs) ≤ 2 * length xs
+few_fields_in_all [] = omega arith
+few_fields_in_all (x ∷ xs) = omega (arith, onto_count x (lines_of xs) (x == LINE_FEED), few_fields_in_all xs)
 
 small : (b : ℕ) → nat_le b 127 ≡ true → b < 128
 small b h = grind (arith, nat_tests)
 
-plain_small : (b : ℕ) → is_plain_byte b ≡ true → b < 128
+plain_-- how many fields the records have
+abbrev pub field_count : List (List ℕ) → ℕ
+field_count records = sum (map (λ text. length (fields_in text)) records)
+
+longer_field : (x : ℕ) (parts : List (List ℕ)) (ends : Bool) → length (cond ends ([] ∷ parts) (onto_first x parts)) ≤ 1 + max 1 (length parts)
+longer_field x parts true = omega arith
+longer_field x [] false = omega arith
+longer_field x (part ∷ parts) false = omega arith
+
+one_field : (xs : List ℕ) → 1 ≤ length (fields_in xs)
+one_field xs = omega (arith, length-slice_split (λ byte. byte == COMMA) xs)
+
+longer_record : (x : ℕ) (xs : List ℕ) → length (fields_in (x ∷ xs)) ≤ 1 + length (fields_in xs)
+longer_record x xs = omega (arith, longer_field x (fields_in xs) (x == COMMA), one_field xs)
+
+onto_count : (x : ℕ) (records : List (List ℕ)) (ends : Bool) → field_count (cond ends ([] ∷ records) (onto_first x records)) ≤ field_count records + 2
+onto_count x records true = omega arith
+onto_count x [] false = omega (arith, longer_record x [])
+onto_count x (record' ∷ records) false = omega (arith, longer_record x record')
+
+-- there are at most twice as many fields as bytes
+pub few_fields_in_all : (xs : List ℕ) → field_count (lines_of xs) ≤ 2 * length xs
+few_fields_in_all [] = omega arith
+few_fields_in_all (x ∷ xs) = omega (arith, onto_count x (lines_of xs) (x == LINE_FEED), few_fields_in_all xs)
+
+small : (b : ℕ) → is_plain_byte b ≡ true → b < 128
 plain_small b h = small b (first_of (nat_le b 127) (not (b == 34)) (first_of (nat_le b 127 && not (b == 34)) (not (b == 13)) h))
 
 plain_ascii : (xs : List ℕ) → list_all is_plain_byte xs ≡ true → (i : ℕ) → get_or xs i 0 < 128
@@ -64,21 +117,24 @@ plain_ascii (x ∷ xs) h (suc i) = plain_ascii xs (second_of (is_plain_byte x) (
 pub plain_utf8 : (xs : List ℕ) → list_all is_plain_byte xs ≡ true → IsUtf8 xs
 plain_utf8 xs h = IsUtf8-from_ascii xs (plain_ascii xs h)
 
-pub few_fields : (text : List ℕ) → is_plain_record text ≡ true → length (fields_in text) ≤ 1024
+pub few_fields : (text : List ℕ) → is_plain_record text ≡ true → length (fields_in text) ≤ MOST_FIELDS
 few_fields text h =
     let filled = nat_lt 0 (length text) in
-    let few = nat_le (length (fields_in text)) 1024 in
-    leb-true (length (fields_in text)) 1024 (second_of filled few h)
+    let few = nat_le (length (fields_in text)) MOST_FIELDS in
+    leb-true (length (fields_in text)) MOST_FIELDS (second_of filled few h)
 
 module _ (bytes : List ℕ) (h : is_plain_book bytes ≡ true) where
   abbrev short : Bool
-  short = nat_le (length bytes) 65535
+  short = nat_le (length bytes) MOST_BYTES
 
   both_of_bytes : (short && list_all is_plain_byte bytes) ≡ true
   both_of_bytes = first_of (short && list_all is_plain_byte bytes) (list_all is_plain_record (lines_of bytes)) h
 
-  pub short_book : length (lines_of bytes) ≤ 65535
-  short_book = omega (arith, few_lines bytes, leb-true (length bytes) 65535 (first_of short (list_all is_plain_byte bytes) both_of_bytes))
+  pub short_bytes : length bytes ≤ MOST_BYTES
+  short_bytes = leb-true (length bytes) MOST_BYTES (first_of short (list_all is_plain_byte bytes) both_of_bytes)
+
+  pub short_book : length (lines_of bytes) ≤ MOST_BYTES
+  short_book = omega (arith, few_lines bytes, short_bytes)
 
   pub plain_lines : list_all (list_all is_plain_byte) (lines_of bytes) ≡ true
   plain_lines = lines_pass is_plain_byte bytes (second_of short (list_all is_plain_byte bytes) both_of_bytes)

@@ -1,1 +1,2 @@
 pub mod BookForm
+pub mod FieldsLeft

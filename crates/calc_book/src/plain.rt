@@ -2,16 +2,11 @@
 ghost use Rattle.std.specs.Prelude.{◌≡◌, nat_le, length};
 ghost use Rattle.std.specs.List.{list_all};
 ghost use Rattle.calc_book.specs.BookForm.{fields_in, is_plain_byte, is_plain_record, is_plain_book};
-ghost use Rattle.calc_script.specs.Lines.{lines_of};
+ghost use Rattle.byte_cuts.specs.Lines.{lines_of};
 
+use crate::limits::{MOST_BYTES, MOST_FIELDS};
 use crate::splitting::fields_of;
-use calc_script::lines;
-
-/// The most bytes that a book may have so far.
-pub const MOST_BYTES: usize = 65_535;
-
-/// The most fields that a record may have.
-const MOST_FIELDS: usize = 1_024;
+use byte_cuts::lines;
 
 /// Whether the book is one that can be read so far.
 pub(crate) fn is_plain_book(bytes: &[u8]) -> bool
@@ -46,7 +41,7 @@ fn is_plain_record(text: &[u8]) -> bool
 }
 
 fn has_few_fields(text: &[u8]) -> bool
-    ensures { result ≡ nat_le (length (fields_in text.now)) 1024 }
+    ensures { result ≡ nat_le (length (fields_in text.now)) MOST_FIELDS }
 {
     let mut count = 0;
     for _field in fields_of(text) {

@@ -1,8 +1,10 @@
-ghost use Rattle.std.specs.Prelude.{◌≡◌, ◌∷◌, ◌==◌};
-ghost use Rattle.std.specs.List.{position};
+ghost use Rattle.std.specs.Prelude.{◌≡◌, ◌∷◌};
 ghost use Rattle.std.specs.Iterator.{YieldsFirstBy, item_count};
-ghost use Rattle.calc_book.specs.BookForm.{fields_in, fields_left};
+ghost use Rattle.calc_book.specs.BookForm.{fields_in};
+ghost use Rattle.calc_book.specs.FieldsLeft.{fields_left};
 
+use crate::limits::COMMA;
+use byte_cuts::position_of;
 use std::marker::Model;
 
 /// The fields of a record that are still to come. Contracts see them as their list.
@@ -13,7 +15,7 @@ pub(crate) struct RecordFields<'a> {
 
 impl<'a> Model for RecordFields<'a> {
     ghost use Rattle.std.specs.Prelude.{List, ℕ};
-    ghost use Rattle.calc_book.specs.BookForm.{fields_left};
+    ghost use Rattle.calc_book.specs.FieldsLeft.{fields_left};
 
     ghost Value = { List (List ℕ) };
 
@@ -45,14 +47,8 @@ impl<'a> Iterator for RecordFields<'a> {
 fn cut_field(text: &[u8]) -> (&[u8], Option<&[u8]>)
     ensures { fields_in text.now ≡ result.0.now ∷ fields_left result.1 }
 {
-    match place_of_comma(text) {
+    match position_of(text, COMMA) {
         Some(end) => (&text[..end], Some(&text[end + 1..])),
         None => (text, None),
     }
-}
-
-fn place_of_comma(text: &[u8]) -> Option<usize>
-    ensures { result ≡ position (λ byte. byte == 44) text.now }
-{
-    text.iter().position(|byte| *byte == b',')
 }

@@ -1,7 +1,9 @@
-pub mod Records
-pub mod Writes
-pub mod Inputs
-pub mod Output
 pub mod Words
+pub mod Records
+pub mod Output
+pub mod Ending
+pub mod Runs
+pub mod Messages
+pub mod Writers
 pub mod Sessions
-pub mod Endings
+pub mod Inputs

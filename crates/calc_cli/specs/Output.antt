@@ -2,20 +2,24 @@
 -- `line N refused: CAUSE`, where N is its number from 1 on, and changes nothing. An edit writes nothing.
 -- `calc` writes `recalculated N`, where N is the number of stale formulas, and recalculates. `print`
 -- recalculates and writes what its cells show, each evaluated alone from scratch; `formulas` writes what
--- they hold. After a recalculation no formula is stale.
+-- they hold. After a recalculation no formula is stale. What a field of a line holds is given: `field` says it
+-- of each text.
 use Rattle.std.specs.Prelude.{ℕ, ◌+◌, ◌||◌, Bool, true, false, List, [], ◌∷◌, ◌++◌, codes, Result, Ok, Err}
 use Rattle.std.specs.Fmt.{decimal}
 use Rattle.calc_model.specs.Books.{Book}
-use Rattle.calc_model.specs.Stale.{CellSet, count_in, is_formula_cell, stale_after}
-use Rattle.calc_model.specs.Step as steps
+use Rattle.calc_model.specs.Touched.{CellSet}
+use Rattle.calc_model.specs.Stale.{count_in, is_formula_cell, stale_after}
+use Rattle.calc_model.specs.Step.{step}
 use Rattle.calc_model.specs.Val.{val}
+use Rattle.calc_model.specs.declared.content.Content.{Content}
 use Rattle.calc_model.specs.declared.edit.Edit.{Edit}
+use Rattle.calc_model.specs.declared.edit.EditCause.{EditCause}
 use Rattle.calc_script.specs.declared.command.Line.{Line}
 use Rattle.calc_script.specs.declared.command.Line.TheVariants.{Nothing, Do, Refused}
 use Rattle.calc_script.specs.declared.command.Command.{Command}
 use Rattle.calc_script.specs.declared.command.Command.TheVariants as commands
 use Rattle.calc_script.specs.declared.command.Cause.{Cause}
-use Rattle.calc_script.specs.declared.command.Cause.TheVariants.{CellsFull}
+use Rattle.calc_script.specs.declared.command.Cause.TheVariants as causes
 use Rattle.calc_script.specs.Commands.{line_of, cause_word}
 use Rattle.calc_cli.specs.Records.{held_texts, printed_area, shown_texts}
 
@@ -48,15 +52,16 @@ abbrev pub refusal : Session → ℕ → Cause → Answer
 refusal session number cause = record { session = session; text = refusal_text number cause; refused = true }
 
 -- an edit that gives a new book, or a cause
-abbrev pub edited : Session → ℕ → Edit → Result Book steps.Cause → Answer
-edited session number edit (Ok book) = accepted (record { book = book; stale = stale_after book edit session.stale }) []
-edited session number edit (Err steps.CellsFull) = refusal session number CellsFull
+abbrev pub edited : Session → ℕ → Edit → Result Book EditCause → Answer
+edited session number edit (Ok book) =
+    accepted (record { book = book; stale = stale_after session.book edit book session.stale }) []
+edited session number edit (Err cause) = refusal session number (causes.Edit cause)
 
 abbrev pub recalculation : Session → List ℕ
 recalculation session = codes "recalculated " ++ decimal (count_in session.book session.stale) ++ codes "\n"
 
 abbrev pub done : Session → ℕ → Command → Answer
-done session number (commands.Edit edit) = edited session number edit (steps.step session.book edit)
+done session number (commands.Edit edit) = edited session number edit (step session.book edit)
 done session number commands.Calc = accepted (recalculated session) (recalculation session)
 done session number (commands.Print area) = accepted (recalculated session) (printed_area (shown_texts (val session.book)) area)
 done session number (commands.Formulas area) = accepted session (printed_area (held_texts session.book) area)
@@ -66,14 +71,17 @@ answer session number Nothing = accepted session []
 answer session number (Do command) = done session number command
 answer session number (Refused cause) = refusal session number cause
 
--- what the lines write, from a number on
-abbrev pub output : Session → ℕ → List (List ℕ) → List ℕ
-output session number [] = []
-output session number (line ∷ lines) =
-    (answer session number (line_of line)).text ++ output (answer session number (line_of line)).session (number + 1) lines
+module _ (field : List ℕ → Content) where
+  -- what the lines write, from a number on
+  abbrev pub output : Session → ℕ → List (List ℕ) → List ℕ
+  output session number [] = []
+  output session number (line ∷ lines) =
+      let first = answer session number (line_of field line) in
+      first.text ++ output first.session (number + 1) lines
 
--- whether a line is refused
-abbrev pub has_refusal : Session → ℕ → List (List ℕ) → Bool
-has_refusal session number [] = false
-has_refusal session number (line ∷ lines) =
-    (answer session number (line_of line)).refused || has_refusal (answer session number (line_of line)).session (number + 1) lines
+  -- whether a line is refused
+  abbrev pub has_refusal : Session → ℕ → List (List ℕ) → Bool
+  has_refusal session number [] = false
+  has_refusal session number (line ∷ lines) =
+      let first = answer session number (line_of field line) in
+      first.refused || has_refusal first.session (number + 1) lines

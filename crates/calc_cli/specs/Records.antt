@@ -1,11 +1,9 @@
 -- How texts of cells are printed: a record for each row of an area. The fields of a record are joined by
 -- commas, and a line feed ends it. A field that has a comma, a quote, a carriage return or a line feed
 -- is put in quotes, with its own quotes doubled. A record of one empty field is `""`.
-use Rattle.std.specs.Prelude.{◌≡◌, ℕ, false, List, map, Some, Vec}
-use Rattle.std.specs.declared.alloc.Global.{Global}
-use Rattle.csv.specs.declared.writer.Writer.{Writer}
+use Rattle.std.specs.Prelude.{ℕ, List, map}
 use Rattle.std.specs.List.{flat_map}
-use Rattle.csv.specs.Writing.{default_writer, row_text, text_written, writer_setup, fields_written, has_written}
+use Rattle.csv.specs.Writing.{default_writer, row_text}
 use Rattle.calc_addr.specs.Places.{Place, Rectangle, places, rows_of}
 use Rattle.calc_model.specs.Books.{Book, content_at}
 use Rattle.calc_model.specs.Printed.{printed_content}
@@ -32,10 +30,3 @@ row_texts texts row = map texts (places row)
 
 unfoldable pub printed_area : Texts → Rectangle → List ℕ
 printed_area texts area = flat_map (λ row. record_text (row_texts texts row)) (rows_of area)
-
--- The writer stands before a record, and holds these bytes.
-pub record Holds (writer : Writer (Vec ℕ Global)) (bytes : List ℕ) : Type 0 where
-  pub text : text_written (λ (v : Vec ℕ Global). Some v.items) writer ≡ Some bytes
-  pub setup : writer_setup writer ≡ default_writer
-  pub no_field : fields_written writer ≡ 0
-  pub nothing : has_written writer ≡ false

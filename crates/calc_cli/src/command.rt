@@ -1,17 +1,17 @@
-ghost use Rattle.std.specs.Prelude.{◌≡◌, ◌≤◌, ◌↔◌, length, List, ℕ, None, Some, [], IsTrue, IsSome};
-ghost use Rattle.std.specs.Io.KnownBytes.{Appends};
+ghost use Rattle.std.specs.Prelude.{◌≡◌, ◌≢◌, ◌↔◌, length, List, ℕ, None, Some, IsTrue, IsSome};
+ghost use Rattle.std.specs.Io.KnownBytes.{Keeps};
 ghost use Rattle.calc_io.specs.Desk.{told_book, IsUnknown};
-ghost use Rattle.calc_io.specs.Faults.{Rose};
-ghost use Rattle.calc_io.specs.Sink.{HasRoom};
-ghost use Rattle.calc_cli.specs.Endings.{Ends, EndsSomehow, TakesInputs, ending};
+ghost use Rattle.calc_model.specs.OverFields.{OverFields};
+ghost use Rattle.calc_cli.specs.Ending.{ending};
+ghost use Rattle.calc_cli.specs.Runs.{CountsFaults, Ends, EndsSomehow, Serves, TakesInputs, TakesWhole, Tells};
 ghost use Rattle.calc_cli.specs.Words.{book_name};
+ghost use Rattle.formula_reader.specs.Fields.{field_of};
 
-use crate::calculate::finish;
-use crate::input::ReadFault;
+use crate::end::finish;
 use crate::inputs::read_inputs;
-use crate::status::{BAD_WORDS, DESK_FAILED, NO_MEMORY};
+use crate::status::{BAD_WORDS, DESK_FAILED, NO_MEMORY, SINK_FAILED};
 use crate::words::book_name;
-use calc_io::{Desk, Sink};
+use calc_io::{Desk, DeviceFault, Sink};
 use calc_model::Text;
 use std::alloc::Global;
 
@@ -22,48 +22,67 @@ use std::alloc::Global;
 /// 3: the desk failed; 4: the sink failed; 5: memory was refused; 6: the book is refused; 7: the script
 /// has more than 16,777,216 bytes.
 pub fn run<D: Desk, K: Sink>(alloc: Global, words: &[Text], desk: &mut D, sink: &mut K) -> u8
-    ensures words { result ≡ 2 ↔ book_name words.now ≡ None }
-    ensures untouched { result ≡ 2 → (desk.new ≡ desk.old) × (sink.new ≡ sink.old) }
-    ensures ends { (name book script : List ℕ) → book_name words.now ≡ Some name → told_book (D.books desk.old) name ≡ Some book → D.script_left desk.old ≡ Some script → Ends result (K.written sink.old) (K.written sink.new) (ending book script) }
-    ensures ends_somehow { (result ≡ 2 → ⊥) → EndsSomehow result (K.written sink.old) (K.written sink.new) }
-    ensures nothing_written { (result ≡ 3 → Appends (K.written sink.old) (K.written sink.new) []) × (result ≡ 7 → Appends (K.written sink.old) (K.written sink.new) []) }
+    ensures words { result ≡ BAD_WORDS ↔ book_name words.now ≡ None }
+    ensures untouched { result ≡ BAD_WORDS → (desk.new ≡ desk.old) × (sink.new ≡ sink.old) }
+    ensures ends { OverFields (λ field. (book script : List ℕ)
+        → Serves (D.books desk.old) (D.script_left desk.old) words.now book script
+        → Ends result (K.written sink.old) (K.written sink.new) (ending field book script)) }
+    ensures ends_somehow { result ≢ BAD_WORDS
+        → EndsSomehow result (K.written sink.old) (K.written sink.new) }
 
-    ensures inputs_taken { (name book script : List ℕ) → book_name words.now ≡ Some name → told_book (D.books desk.old) name ≡ Some book → D.script_left desk.old ≡ Some script → TakesInputs result script (D.book_left desk.new) (D.script_left desk.new) }
-    ensures unknown { (name : List ℕ) → book_name words.now ≡ Some name → IsUnknown (D.books desk.old) name → result ≡ 3 }
-    ensures desk_later { D.faults desk.old ≤ D.faults desk.new }
-    ensures desk_failed { result ≡ 3 → Rose (D.faults desk.old) (D.faults desk.new) }
-    ensures desk_calm { (name : List ℕ) → book_name words.now ≡ Some name → IsTrue (D.calm desk.old) → IsSome (told_book (D.books desk.old) name) → D.faults desk.new ≡ D.faults desk.old }
+    ensures takes { (book script : List ℕ)
+        → Serves (D.books desk.old) (D.script_left desk.old) words.now book script
+        → TakesInputs result book script
+        (D.book_left desk.old) (D.book_left desk.new) (D.script_left desk.new) }
+    ensures unknown { (name : List ℕ) → book_name words.now ≡ Some name
+        → IsUnknown (D.books desk.old) name → (result ≡ DESK_FAILED)
+        × Keeps (D.book_left desk.old) (D.book_left desk.new)
+        × Keeps (D.script_left desk.old) (D.script_left desk.new) }
 
-    ensures sink_later { K.faults sink.old ≤ K.faults sink.new }
-    ensures sink_failed { result ≡ 4 → Rose (K.faults sink.old) (K.faults sink.new) }
-    ensures sink_room { (name book script : List ℕ) → book_name words.now ≡ Some name → told_book (D.books desk.old) name ≡ Some book → D.script_left desk.old ≡ Some script → HasRoom (K.room sink.old) (length (ending book script).written) → (result ≡ 4 → ⊥) × (K.faults sink.new ≡ K.faults sink.old) }
+    ensures desk_faults { CountsFaults DESK_FAILED result (D.faults desk.old) (D.faults desk.new) }
+    ensures desk_calm { (name : List ℕ) → book_name words.now ≡ Some name
+        → IsTrue (D.calm desk.old) → IsSome (told_book (D.books desk.old) name)
+        → D.faults desk.new ≡ D.faults desk.old }
+    ensures sink_faults { CountsFaults SINK_FAILED result (K.faults sink.old) (K.faults sink.new) }
+    ensures sink_room { OverFields (λ field. (book script : List ℕ)
+        → Serves (D.books desk.old) (D.script_left desk.old) words.now book script
+        → TakesWhole result (K.room sink.old) (length (ending field book script).written)
+        (K.faults sink.old) (K.faults sink.new)) }
 {
     match book_name(words) {
-        Some(name) => calculate(alloc, name, desk, sink),
+        Some(name) => run_book(alloc, name, desk, sink),
         None => BAD_WORDS,
     }
 }
 
 /// Runs the command for the book of that name.
-fn calculate<D: Desk, K: Sink>(alloc: Global, name: &Text, desk: &mut D, sink: &mut K) -> u8
-    ensures words { result ≡ 2 → ⊥ }
-    ensures ends { (book script : List ℕ) → told_book (D.books desk.old) name.now ≡ Some book → D.script_left desk.old ≡ Some script → Ends result (K.written sink.old) (K.written sink.new) (ending book script) }
+fn run_book<D: Desk, K: Sink>(alloc: Global, name: &Text, desk: &mut D, sink: &mut K) -> u8
+    ensures words { result ≢ BAD_WORDS }
+    ensures ends { (book script : List ℕ)
+        → Tells (D.books desk.old) (D.script_left desk.old) name.now book script
+        → Ends result (K.written sink.old) (K.written sink.new) (ending field_of book script) }
     ensures ends_somehow { EndsSomehow result (K.written sink.old) (K.written sink.new) }
-    ensures nothing_written { (result ≡ 3 → Appends (K.written sink.old) (K.written sink.new) []) × (result ≡ 7 → Appends (K.written sink.old) (K.written sink.new) []) }
 
-    ensures inputs_taken { (book script : List ℕ) → told_book (D.books desk.old) name.now ≡ Some book → D.script_left desk.old ≡ Some script → TakesInputs result script (D.book_left desk.new) (D.script_left desk.new) }
-    ensures unknown { IsUnknown (D.books desk.old) name.now → result ≡ 3 }
-    ensures desk_later { D.faults desk.old ≤ D.faults desk.new }
-    ensures desk_failed { result ≡ 3 → Rose (D.faults desk.old) (D.faults desk.new) }
-    ensures desk_calm { IsTrue (D.calm desk.old) → IsSome (told_book (D.books desk.old) name.now) → D.faults desk.new ≡ D.faults desk.old }
+    ensures takes { (book script : List ℕ)
+        → Tells (D.books desk.old) (D.script_left desk.old) name.now book script
+        → TakesInputs result book script
+        (D.book_left desk.old) (D.book_left desk.new) (D.script_left desk.new) }
+    ensures unknown { IsUnknown (D.books desk.old) name.now → (result ≡ DESK_FAILED)
+        × Keeps (D.book_left desk.old) (D.book_left desk.new)
+        × Keeps (D.script_left desk.old) (D.script_left desk.new) }
 
-    ensures sink_later { K.faults sink.old ≤ K.faults sink.new }
-    ensures sink_failed { result ≡ 4 → Rose (K.faults sink.old) (K.faults sink.new) }
-    ensures sink_room { (book script : List ℕ) → told_book (D.books desk.old) name.now ≡ Some book → D.script_left desk.old ≡ Some script → HasRoom (K.room sink.old) (length (ending book script).written) → (result ≡ 4 → ⊥) × (K.faults sink.new ≡ K.faults sink.old) }
+    ensures desk_faults { CountsFaults DESK_FAILED result (D.faults desk.old) (D.faults desk.new) }
+    ensures desk_calm { IsTrue (D.calm desk.old) → IsSome (told_book (D.books desk.old) name.now)
+        → D.faults desk.new ≡ D.faults desk.old }
+    ensures sink_faults { CountsFaults SINK_FAILED result (K.faults sink.old) (K.faults sink.new) }
+    ensures sink_room { (book script : List ℕ)
+        → Tells (D.books desk.old) (D.script_left desk.old) name.now book script
+        → TakesWhole result (K.room sink.old) (length (ending field_of book script).written)
+        (K.faults sink.old) (K.faults sink.new) }
 {
     match read_inputs(alloc, desk, name) {
         Ok(inputs) => finish(alloc, inputs, sink),
-        Err(ReadFault::Desk) => DESK_FAILED,
-        Err(ReadFault::NoMemory) => NO_MEMORY,
+        Err(DeviceFault::Failed(_)) => DESK_FAILED,
+        Err(DeviceFault::NoMemory(_)) => NO_MEMORY,
     }
 }

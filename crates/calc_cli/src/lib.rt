@@ -1,16 +1,22 @@
 //! The command: a book and a script in, the output of the script's lines out.
 #![tactic(auto)]
 
-mod answers;
-mod calculate;
+mod cell_texts;
 mod command;
-mod input;
+mod end;
+mod input_bytes;
 mod inputs;
+mod limits;
 mod output;
-mod print;
+mod records;
+mod replies;
 mod status;
-mod texts;
 mod words;
-mod write;
+mod written;
 
 pub use command::run;
+pub use limits::MOST_SCRIPT_BYTES;
+pub use status::{
+    BAD_WORDS, BOOK_REFUSED, DESK_FAILED, DONE, LINE_REFUSED, NO_MEMORY, SCRIPT_TOO_LONG,
+    SINK_FAILED, message,
+};

@@ -1,25 +1,41 @@
-//! The statuses that a run ends with.
+//! The statuses that a run ends with, and what is said of them on standard error.
+ghost use Rattle.std.specs.Prelude.{◌≡◌};
+ghost use Rattle.calc_cli.specs.Messages.{message_of};
 
 /// All output is written, and no line was refused.
-pub(crate) const DONE: u8 = 0;
+pub const DONE: u8 = 0;
 
 /// All output is written, and a line was refused.
-pub(crate) const LINE_REFUSED: u8 = 1;
+pub const LINE_REFUSED: u8 = 1;
 
 /// The words aren't of the command. Nothing is read or written.
-pub(crate) const BAD_WORDS: u8 = 2;
+pub const BAD_WORDS: u8 = 2;
 
 /// The desk failed. Nothing is written.
-pub(crate) const DESK_FAILED: u8 = 3;
+pub const DESK_FAILED: u8 = 3;
 
 /// The sink failed.
-pub(crate) const SINK_FAILED: u8 = 4;
+pub const SINK_FAILED: u8 = 4;
 
 /// Memory was refused.
-pub(crate) const NO_MEMORY: u8 = 5;
+pub const NO_MEMORY: u8 = 5;
 
 /// The book is refused.
-pub(crate) const BOOK_REFUSED: u8 = 6;
+pub const BOOK_REFUSED: u8 = 6;
 
 /// The script is too long. Nothing is written.
-pub(crate) const SCRIPT_TOO_LONG: u8 = 7;
+pub const SCRIPT_TOO_LONG: u8 = 7;
+
+/// What a user is told of a run that ended with this status, as a line without its end, or nothing.
+pub fn message(status: u8) -> &'static str
+    ensures { result.now ≡ message_of status }
+{
+    match status {
+        BAD_WORDS => "usage: calc BOOK",
+        DESK_FAILED => "the book or the script can't be read",
+        SINK_FAILED => "the output can't be written",
+        NO_MEMORY => "out of memory",
+        SCRIPT_TOO_LONG => "the script has more than 16,777,216 bytes",
+        _ => "",
+    }
+}

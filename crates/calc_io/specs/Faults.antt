@@ -1,5 +1,7 @@
 -- Counts of faults. A count never falls, and at 2^64 - 1, its last value, it stands still.
-use Rattle.std.specs.Prelude.{◌≡◌, ℕ, ◌+◌, ◌-◌, ◌^◌, ◌≤◌, min, Result, MatchResult}
+use Rattle.std.specs.Prelude.{◌≡◌, ℕ, ◌+◌, ◌-◌, ◌^◌, ◌≤◌, min, ⊤, Result, Ok, Err, MatchResult}
+use Rattle.calc_io.specs.declared.faults.DeviceFault.{DeviceFault}
+use Rattle.calc_io.specs.declared.faults.DeviceFault.TheVariants.{Failed, NoMemory}
 
 -- the count after one more fault
 abbrev pub one_more : ℕ → ℕ
@@ -12,3 +14,9 @@ Rose before now = one_more before ≤ now
 -- a call that fails is counted, and no other
 abbrev pub CountsFailure : {T E : Type 0} → ℕ → ℕ → Result T E → Type 0
 CountsFailure before now result = MatchResult result (λ _. now ≡ before) (λ _. now ≡ one_more before)
+
+-- it ended because a device failed
+abbrev pub HasFailed : {T : Type 0} → Result T DeviceFault → Type 0
+HasFailed (Ok x) = ⊥
+HasFailed (Err (Failed failed)) = ⊤
+HasFailed (Err (NoMemory refused)) = ⊥

@@ -1,9 +1,22 @@
 ghost use Rattle.std.specs.Prelude.{◌≡◌, ◌↔◌, ◌≤◌, IsTrue, Contains};
 ghost use Rattle.calc_io.specs.Faults.{one_more};
 
+use calc_addr::NoMemory;
+use thiserror::Error;
+
 /// A call couldn't be done, and the object that answers so has counted a fault.
-#[derive(Clone, Copy, Debug, PartialEq, Eq)]
+#[derive(Clone, Copy, Debug, PartialEq, Eq, Error)]
+#[error("a device failed")]
 pub struct Failed;
+
+/// Why an input isn't read, or an output isn't written, to its end.
+#[derive(Clone, Copy, Debug, PartialEq, Eq, Error)]
+pub enum DeviceFault {
+    #[error(transparent)]
+    Failed(#[from] Failed),
+    #[error("memory was refused")]
+    NoMemory(#[from(alloc)] NoMemory),
+}
 
 /// Counts one more fault, up to the last value of the count.
 pub(crate) fn count_fault(faults: &mut u64) -> Failed

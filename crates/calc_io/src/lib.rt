@@ -15,7 +15,7 @@ mod steady;
 
 pub use desk::Desk;
 pub use edge::{PipeDesk, PipeSink};
-pub use faults::Failed;
+pub use faults::{DeviceFault, Failed};
 pub use memory::{MemoryDesk, MemorySink};
 pub use sink::Sink;
 pub use steady::{SteadyDesk, SteadySink};

@@ -1,10 +1,10 @@
--- Which texts spell a formula, and which tree it is, after OpenFormula's expression syntax. There is a relation
--- for each row of the grammar: the bytes of its pieces, and the tree of each. A token takes the blanks behind
--- it, and those before the first token follow the formula's front.
+-- Which texts spell a formula, and which tree it is, after OpenFormula's expression syntax: the bytes of each
+-- piece, and its tree. A token takes the blanks behind it, and those before the first token follow the formula's
+-- front.
 --
--- The rows bind from 0, the tightest, to 6: a primary behind prefix operators; that with percent signs behind
--- it; powers; products and quotients; sums and differences; joined texts; comparisons. An infix operator
--- associates to the left.
+-- The levels of operators bind from 0, the tightest, to 6: a primary behind prefix operators; that with percent
+-- signs behind it; powers; products and quotients; sums and differences; joined texts; comparisons. An infix
+-- operator associates to the left.
 use Rattle.std.specs.Prelude.{◌≡◌, ℕ, suc, true, false, ◌==◌, ◌||◌, Bool, List, [], ◌∷◌, ◌++◌, Some, codes, map}
 use Rattle.std.specs.Char.{to_ascii_uppercase}
 use Rattle.std.specs.Str.{is_utf8}
@@ -37,20 +37,20 @@ op_text Le = codes "<="
 op_text Gt = codes ">"
 op_text Ge = codes ">="
 
--- the row of an infix operator
-abbrev pub op_row : Op → ℕ
-op_row Pow = 2
-op_row Mul = 3
-op_row Div = 3
-op_row Add = 4
-op_row Sub = 4
-op_row Cat = 5
-op_row Eq = 6
-op_row Ne = 6
-op_row Lt = 6
-op_row Le = 6
-op_row Gt = 6
-op_row Ge = 6
+-- the level of an infix operator
+abbrev pub op_level : Op → ℕ
+op_level Pow = 2
+op_level Mul = 3
+op_level Div = 3
+op_level Add = 4
+op_level Sub = 4
+op_level Cat = 5
+op_level Eq = 6
+op_level Ne = 6
+op_level Lt = 6
+op_level Le = 6
+op_level Gt = 6
+op_level Ge = 6
 
 -- the text begins with a sign
 abbrev pub is_signed : List ℕ → Bool
@@ -73,7 +73,7 @@ in_capitals text = map to_ascii_uppercase text
 mutual
   pub data IsPrimary : List ℕ → Tree → Type 0 where
     operand : {text : List ℕ} {x : Tree} (blanks : List ℕ) → IsOperand text x → are_blanks blanks ≡ true → IsPrimary (text ++ blanks) x
-    parenthesis : {text : List ℕ} {x : Tree} (first last : List ℕ) → are_blanks first ≡ true → IsRow 6 text x → are_blanks last ≡ true → IsPrimary (40 ∷ (first ++ (text ++ (41 ∷ last)))) (t.Paren x)
+    parenthesis : {text : List ℕ} {x : Tree} (first last : List ℕ) → are_blanks first ≡ true → IsLevel 6 text x → are_blanks last ≡ true → IsPrimary (40 ∷ (first ++ (text ++ (41 ∷ last)))) (t.Paren x)
     call : {text : List ℕ} {args : List Tree} (name blanks first last : List ℕ) → is_identifier name ≡ true → are_blanks blanks ≡ true → are_blanks first ≡ true → AreArgs text args → are_blanks last ≡ true → IsPrimary (name ++ (blanks ++ (40 ∷ (first ++ (text ++ (41 ∷ last)))))) (t.Call (in_capitals name) args)
 
   -- the parameters of a call: none, or one and more behind semicolons
@@ -82,16 +82,16 @@ mutual
     some : {text : List ℕ} {args : List Tree} → AreSomeArgs text args → AreArgs text args
 
   pub data AreSomeArgs : List ℕ → List Tree → Type 0 where
-    one : {text : List ℕ} {x : Tree} → IsRow 6 text x → AreSomeArgs text (x ∷ [])
-    more : {front text : List ℕ} {args : List Tree} {x : Tree} (blanks : List ℕ) → AreSomeArgs front args → are_blanks blanks ≡ true → IsRow 6 text x → AreSomeArgs (front ++ (59 ∷ (blanks ++ text))) (args ++ x ∷ [])
+    one : {text : List ℕ} {x : Tree} → IsLevel 6 text x → AreSomeArgs text (x ∷ [])
+    more : {front text : List ℕ} {args : List Tree} {x : Tree} (blanks : List ℕ) → AreSomeArgs front args → are_blanks blanks ≡ true → IsLevel 6 text x → AreSomeArgs (front ++ (59 ∷ (blanks ++ text))) (args ++ x ∷ [])
 
-  pub data IsRow : ℕ → List ℕ → Tree → Type 0 where
-    primary : {text : List ℕ} {x : Tree} → IsPrimary text x → IsRow 0 text x
-    plus : {text : List ℕ} {x : Tree} (blanks : List ℕ) → are_blanks blanks ≡ true → IsRow 0 text x → IsRow 0 (43 ∷ (blanks ++ text)) (t.Plus x)
-    minus : {text : List ℕ} {x : Tree} (blanks : List ℕ) → are_blanks blanks ≡ true → IsRow 0 text x → IsRow 0 (45 ∷ (blanks ++ text)) (t.Minus x)
-    percent : {text : List ℕ} {x : Tree} (blanks : List ℕ) → IsRow 1 text x → are_blanks blanks ≡ true → IsRow 1 (text ++ (37 ∷ blanks)) (t.Percent x)
-    lower : {row : ℕ} {text : List ℕ} {x : Tree} → IsRow row text x → IsRow (suc row) text x
-    operated : {row : ℕ} {left right : List ℕ} {x y : Tree} (op : Op) (blanks : List ℕ) → IsRow (suc row) left x → op_row op ≡ suc row → are_blanks blanks ≡ true → IsRow row right y → IsRow (suc row) (left ++ (op_text op ++ (blanks ++ right))) (t.Binary op x y)
+  pub data IsLevel : ℕ → List ℕ → Tree → Type 0 where
+    primary : {text : List ℕ} {x : Tree} → IsPrimary text x → IsLevel 0 text x
+    plus : {text : List ℕ} {x : Tree} (blanks : List ℕ) → are_blanks blanks ≡ true → IsLevel 0 text x → IsLevel 0 (43 ∷ (blanks ++ text)) (t.Plus x)
+    minus : {text : List ℕ} {x : Tree} (blanks : List ℕ) → are_blanks blanks ≡ true → IsLevel 0 text x → IsLevel 0 (45 ∷ (blanks ++ text)) (t.Minus x)
+    percent : {text : List ℕ} {x : Tree} (blanks : List ℕ) → IsLevel 1 text x → are_blanks blanks ≡ true → IsLevel 1 (text ++ (37 ∷ blanks)) (t.Percent x)
+    looser : {level : ℕ} {text : List ℕ} {x : Tree} → IsLevel level text x → IsLevel (suc level) text x
+    operated : {level : ℕ} {left right : List ℕ} {x y : Tree} (op : Op) (blanks : List ℕ) → IsLevel (suc level) left x → op_level op ≡ suc level → are_blanks blanks ≡ true → IsLevel level right y → IsLevel (suc level) (left ++ (op_text op ++ (blanks ++ right))) (t.Binary op x y)
 
 -- what a formula's text begins with
 pub data IsFront : List ℕ → Type 0 where
@@ -107,5 +107,5 @@ pub record Spells (text : List ℕ) (tree : Tree) : Type 0 where
   pub comparison : List ℕ
   pub is_front : IsFront front
   pub are_blank : are_blanks blanks ≡ true
-  pub spelled : IsRow 6 comparison tree
+  pub spelled : IsLevel 6 comparison tree
   pub joined : text ≡ front ++ (blanks ++ comparison)

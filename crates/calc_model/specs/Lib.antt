@@ -8,13 +8,13 @@ pub mod Eval
 pub mod Val
 pub mod FixedPoint
 pub mod Results
-pub mod Fields
 pub mod Tokens
 pub mod Grammar
 pub mod Limits
 pub mod Formed
 pub mod Printed
 pub mod Field
+pub mod OverFields
 pub mod Step
 pub mod Touched
 pub mod Stale

@@ -1,10 +1,12 @@
--- The limits of formulas: a formula has at most 1,024 tokens behind its front, at most 64 parentheses, of calls
--- or not, are open at one point, and a call has at most 30 parameters. A tree has one node for each part that
--- does something, so these counts of a text are counts of its tree.
-use Rattle.std.specs.Prelude.{ℕ, ◌+◌, ◌-◌, ◌&&◌, nat_le, Bool, List, length, sum, max, map, fold}
+-- The limits of formulas, in the bytes of a text, in its tokens behind the front, in parentheses, of calls or not,
+-- that are open at one point, and in the parameters of a call. A tree has one node for each part that does
+-- something, so all but the first are counts of the tree that the text spells.
+use Rattle.std.specs.Prelude.{◌≡◌, ◌≤◌, ℕ, ◌+◌, ◌-◌, ◌&&◌, nat_le, Bool, true, List, length, sum, max, map, fold}
 use Rattle.calc_model.specs.declared.tree.Tree.{Tree}
 use Rattle.calc_model.specs.declared.tree.Tree.TheOpen.{Tree-F}
 use Rattle.calc_model.specs.declared.tree.Tree.TheFolds.{fold-Tree}
+use Rattle.calc_model.specs.declared.limits.TheConstants.{MOST_FORMULA_BYTES, MOST_OPEN, MOST_PARAMETERS, MOST_TOKENS}
+use Rattle.calc_model.specs.Grammar.{Spells}
 
 abbrev pub most : List ℕ → ℕ
 most counts = fold max 0 counts
@@ -53,8 +55,13 @@ abbrev pub counts_of : Tree → Counts
 counts_of = fold-Tree Counts counts_step
 
 abbrev pub is_within : Counts → Bool
-is_within counts = nat_le counts.tokens 1024 && nat_le counts.open_at_once 64 && nat_le counts.parameters 30
+is_within counts = nat_le counts.tokens MOST_TOKENS && nat_le counts.open_at_once MOST_OPEN && nat_le counts.parameters MOST_PARAMETERS
 
 -- the tree's counts are within the limits
 unfoldable pub is_in_limits : Tree → Bool
 is_in_limits tree = is_within (counts_of tree)
+
+-- The text is within the limits of reading. It spells one tree at most, so this is a property of the text.
+pub record InLimits (text : List ℕ) : Type 0 where
+  pub short : length text ≤ MOST_FORMULA_BYTES
+  pub counted : (tree : Tree) → Spells text tree → is_in_limits tree ≡ true

@@ -8,6 +8,7 @@ use Rattle.calc_addr.specs.Places.{Place}
 use Rattle.calc_addr.specs.Spelling.{spelled_address}
 use Rattle.calc_addr.specs.declared.read.Spelled.{Spelled}
 use Rattle.calc_addr.specs.declared.read.Spelled.TheVariants.{Is, Outside, Not}
+use Rattle.calc_model.specs.declared.identifier.TheConstants.{MOST_BYTES}
 
 -- space, tab, line feed and carriage return
 abbrev pub is_blank : ℕ → Bool
@@ -28,9 +29,9 @@ abbrev pub has_identifier_bytes : List ℕ → Bool
 has_identifier_bytes [] = false
 has_identifier_bytes (byte ∷ rest) = begins_identifier byte && list_all is_in_identifier rest
 
--- an identifier has at most 255 bytes
+-- an identifier has no more than so many bytes
 abbrev pub is_identifier : List ℕ → Bool
-is_identifier text = has_identifier_bytes text && nat_le (length text) 255 && is_utf8 text
+is_identifier text = has_identifier_bytes text && nat_le (length text) MOST_BYTES && is_utf8 text
 
 abbrev pub is_inside : Spelled Place → Bool
 is_inside (Is place) = true

@@ -1,4 +1,3 @@
-pub mod Cutting
 pub mod Splitting
 pub mod TextCuts
 mod Examples

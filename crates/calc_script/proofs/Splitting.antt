@@ -6,7 +6,7 @@ use Rattle.std.proofs.lemmas.List.Splits.{slice_split-cons_yes, slice_split-cons
 use Rattle.std.proofs.lemmas.List.{drop_all, take_all}
 use Rattle.std.proofs.lemmas.Bool.{cases_lt}
 use Rattle.calc_script.specs.Words.{is_space, without_spaces, up_to_space, behind_space, has_bytes, words_of}
-use Rattle.calc_script.proofs.Cutting.{longer_front}
+use Rattle.byte_cuts.proofs.FirstLines.{longer_front}
 
 pub longer_drop : (n x : ℕ) (xs : List ℕ) → drop (1 + n) (x ∷ xs) ≡ drop n xs
 longer_drop n x xs = let e : 1 + n ≡ suc n = omega arith in ap (λ k. drop k (x ∷ xs)) e

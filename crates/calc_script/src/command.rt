@@ -1,8 +1,8 @@
 ghost use Rattle.std.specs.Prelude.{◌≡◌};
-ghost use Rattle.calc_script.specs.Commands.{cause_word};
+ghost use Rattle.calc_script.specs.Commands.{cause_word, edit_cause_word};
 
 use calc_addr::Area;
-use calc_model::Edit;
+use calc_model::{Edit, EditCause};
 
 /// What a line of a script does.
 #[derive(Drop)]
@@ -28,22 +28,13 @@ pub enum Command {
 pub enum Cause {
     /// The line isn't of the form of a command.
     BadCommand,
-    /// An address lies outside the sheets.
-    OffSheet,
     /// The area has more cells than a line may print.
     TooLarge,
-    /// The name isn't spelled as names are.
-    BadName,
-    /// The name isn't defined.
-    NoName,
-    /// No further name can be defined.
-    NamesFull,
-    /// A cell that isn't empty would be pushed past the last row.
-    RowsFull,
-    /// There would be more cells that aren't empty than a book may have.
-    CellsFull,
     /// No watcher is left, or none is attached.
     NoWatcher,
+    /// As the line's edit is refused; `OffSheet` also where an address of any line lies outside the
+    /// sheets.
+    Edit(EditCause),
 }
 
 impl Cause {
@@ -53,14 +44,23 @@ impl Cause {
     {
         match self {
             Cause::BadCommand => "command",
-            Cause::OffSheet => "off-sheet",
             Cause::TooLarge => "too-large",
-            Cause::BadName => "bad-name",
-            Cause::NoName => "no-name",
-            Cause::NamesFull => "names-full",
-            Cause::RowsFull => "rows-full",
-            Cause::CellsFull => "cells-full",
             Cause::NoWatcher => "no-watcher",
+            Cause::Edit(cause) => edit_cause_word(cause),
         }
+    }
+}
+
+fn edit_cause_word(cause: EditCause) -> &'static str
+    ensures { result.now ≡ edit_cause_word cause }
+{
+    match cause {
+        EditCause::NotBuilt => "not-built",
+        EditCause::OffSheet => "off-sheet",
+        EditCause::BadName => "bad-name",
+        EditCause::NoName => "no-name",
+        EditCause::NamesFull => "names-full",
+        EditCause::RowsFull => "rows-full",
+        EditCause::CellsFull => "cells-full",
     }
 }

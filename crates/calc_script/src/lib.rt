@@ -2,10 +2,11 @@
 #![tactic(auto)]
 
 mod command;
-mod cut;
+mod limits;
 mod read;
 mod words;
 
+pub use byte_cuts::{TextLines as ScriptLines, lines};
 pub use command::{Cause, Command, Line};
-pub use cut::{ScriptLines, lines};
+pub use limits::MOST_PRINTED;
 pub use read::read_line;

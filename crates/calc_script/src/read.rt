@@ -1,29 +1,28 @@
-ghost use Rattle.std.specs.Prelude.{◌≡◌, IfOk};
+ghost use Rattle.std.specs.Prelude.{◌≡◌};
 ghost use Rattle.std.specs.Str.{IsUtf8};
 ghost use Rattle.calc_script.specs.Commands.{area_of, calc_of, clear_of, command_of, few_cells, formulas_of, line_of, print_of, set_line, set_of, text_line};
+ghost use Rattle.calc_model.specs.OverFields.{ReadsOver};
 ghost use Rattle.calc_script.specs.Words.{behind_space, up_to_space};
 
 use crate::command::{Cause, Command, Line};
+use crate::limits::MOST_PRINTED;
 use crate::words::{LineWords, cut_word, is_idle, without_return, without_spaces, words};
 use calc_addr::{Area, NoMemory, Spelled, read_area, read_cell};
-use calc_model::Edit;
+use calc_model::{Edit, EditCause};
 use formula_reader::read_field;
 use std::alloc::Global;
-
-/// The most cells that a line prints.
-const MOST_PRINTED: u64 = 65_536;
 
 /// What a line does, or why it is refused. It fails only where memory is refused, and takes none but
 /// for a field's texts and formulas. Linear in the line.
 pub fn read_line(alloc: Global, line: &[u8]) -> Result<Line, NoMemory>
-    ensures { IfOk result (λ read. read ≡ line_of line.now) }
+    ensures { ReadsOver result (λ field. line_of field line.now) }
 {
     read_text(alloc, without_return(line))
 }
 
 #[tactic(auto, using(crate::proofs::TextCuts::text_passes, crate::proofs::TextCuts::other_bytes_fail), unfolding(crate::specs::Commands::text_line))]
 fn read_text(alloc: Global, text: &[u8]) -> Result<Line, NoMemory>
-    ensures { IfOk result (λ read. read ≡ text_line text.now) }
+    ensures { ReadsOver result (λ field. text_line field text.now) }
 {
     if is_idle(text) {
         return Ok(Line::Nothing);
@@ -37,7 +36,7 @@ fn read_text(alloc: Global, text: &[u8]) -> Result<Line, NoMemory>
 #[tactic(auto, unfolding(crate::specs::Commands::command_of))]
 fn read_command(alloc: Global, text: &[u8]) -> Result<Line, NoMemory>
     requires { IsUtf8 text.now }
-    ensures { IfOk result (λ read. read ≡ command_of (up_to_space text.now) (behind_space text.now)) }
+    ensures { ReadsOver result (λ field. command_of field (up_to_space text.now) (behind_space text.now)) }
 {
     let (name, rest) = cut_word(text);
     if name == b"set".as_slice() {
@@ -58,7 +57,7 @@ fn read_command(alloc: Global, text: &[u8]) -> Result<Line, NoMemory>
 #[tactic(auto, unfolding(crate::specs::Commands::set_of))]
 fn set(alloc: Global, rest: &[u8]) -> Result<Line, NoMemory>
     requires { IsUtf8 rest.now }
-    ensures { IfOk result (λ read. read ≡ set_of rest.now) }
+    ensures { ReadsOver result (λ field. set_of field rest.now) }
 {
     let (address, field) = cut_word(without_spaces(rest));
     set_cell(alloc, address, field)
@@ -66,7 +65,7 @@ fn set(alloc: Global, rest: &[u8]) -> Result<Line, NoMemory>
 
 fn set_cell(alloc: Global, address: &[u8], field: &[u8]) -> Result<Line, NoMemory>
     requires { IsUtf8 field.now }
-    ensures { IfOk result (λ read. read ≡ set_line address.now field.now) }
+    ensures { ReadsOver result (λ meaning. set_line meaning address.now field.now) }
 {
     if field.is_empty() {
         return Ok(Line::Refused(Cause::BadCommand));
@@ -76,7 +75,7 @@ fn set_cell(alloc: Global, address: &[u8], field: &[u8]) -> Result<Line, NoMemor
             let content = read_field(alloc, field)?;
             Ok(Line::Do(Command::Edit(Edit::Set { cell, content })))
         }
-        Spelled::Outside => Ok(Line::Refused(Cause::OffSheet)),
+        Spelled::Outside => Ok(Line::Refused(Cause::Edit(EditCause::OffSheet))),
         Spelled::Not => Ok(Line::Refused(Cause::BadCommand)),
     }
 }
@@ -129,7 +128,7 @@ fn read_only_area(mut words: LineWords<'_>) -> Result<Area, Cause>
     match (words.next(), words.next()) {
         (Some(word), None) => match read_area(word) {
             Spelled::Is(area) => Ok(area),
-            Spelled::Outside => Err(Cause::OffSheet),
+            Spelled::Outside => Err(Cause::Edit(EditCause::OffSheet)),
             Spelled::Not => Err(Cause::BadCommand),
         },
         _ => Err(Cause::BadCommand),

@@ -3,7 +3,7 @@ ghost use Rattle.std.specs.Iterator.{YieldsFirstBy, item_count};
 ghost use Rattle.std.specs.List.{list_all, prefix_len};
 ghost use Rattle.std.specs.Prelude.{MatchOption, [], length, ◌∷◌, ◌≡◌, ◌≤◌};
 
-use crate::cut::cut;
+use byte_cuts::cut;
 use std::marker::Model;
 
 /// The words of a text that are still to come. Contracts see them as their list.

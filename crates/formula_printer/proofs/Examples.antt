@@ -13,7 +13,7 @@ use Rattle.calc_model.specs.declared.fault.Fault.TheVariants.{Over}
 use Rattle.calc_model.specs.declared.tree.Op.TheVariants.{Pow, Mul, Add, Sub, Cat}
 use Rattle.calc_model.specs.declared.tree.Tree.{Tree}
 use Rattle.calc_model.specs.declared.tree.Tree.TheVariants as t
-use Rattle.calc_model.specs.Formed.{Form, form_of, form_step, is_at, is_well_formed}
+use Rattle.calc_model.specs.Formed.{Form, form_of, form_step, stands_within, is_well_formed}
 use Rattle.calc_model.specs.Printed.{printed_content}
 use Rattle.calc_model.specs.Tokens.{is_identifier}
 use Rattle.calc_model.proofs.TreeFolds as fold
@@ -106,8 +106,8 @@ a_difference_is_no_base : is_well_formed (t.Binary Pow (t.Binary Sub (whole 1) (
 unfolding is_well_formed
 a_difference_is_no_base =
     let difference = t.Binary Sub (whole 1) (whole 2) in
-    let loose : is_at 2 (form_of difference) ≡ false = ap (is_at 2) (fold.at-Binary Form form_step Sub (whole 1) (whole 2)) ∙ and_right _ false refl in
-    ap is_formed (fold.at-Binary Form form_step Pow difference (whole 3)) ∙ and_left _ (is_at 1 (form_of (whole 3))) loose
+    let loose : stands_within 2 (form_of difference) ≡ false = ap (stands_within 2) (fold.at-Binary Form form_step Sub (whole 1) (whole 2)) ∙ and_right _ false refl in
+    ap is_formed (fold.at-Binary Form form_step Pow difference (whole 3)) ∙ and_left _ (stands_within 1 (form_of (whole 3))) loose
 
 a_negative_number_is_no_node : is_well_formed (t.Number (negsuc 0)) ≡ false
 unfolding is_well_formed

@@ -18,7 +18,7 @@ use Rattle.calc_addr.proofs.ReferenceTrip.{spelled_reference-printed_reference}
 use Rattle.calc_model.specs.declared.tree.Tree.{Tree}
 use Rattle.calc_model.specs.declared.tree.Tree.TheVariants as t
 use Rattle.calc_model.specs.Formed.{is_not_negative}
-use Rattle.calc_model.specs.Grammar.{in_capitals, is_signed, IsOperand, IsPrimary, IsRow, operand, primary, number, reference}
+use Rattle.calc_model.specs.Grammar.{in_capitals, is_signed, IsOperand, IsPrimary, IsLevel, operand, primary, number, reference}
 use Rattle.calc_model.specs.Tokens.{has_no_small_letter, is_small_letter}
 
 -- digits in front are no sign
@@ -44,7 +44,7 @@ printed_bracket r valid =
     reference (printed_reference r) r (spelled_reference-printed_reference r is.lies is.spelled)
 
 -- an operand is of the tightest row
-pub row_of_operand : (text : List ℕ) (x : Tree) → IsOperand text x → IsRow 0 text x
+pub row_of_operand : (text : List ℕ) (x : Tree) → IsOperand text x → IsLevel 0 text x
 row_of_operand text x is =
     let Spelled : List ℕ → Type 0 = λ bytes. IsPrimary bytes x in
     primary (subst Spelled (append-nil text) (operand [] is refl))

@@ -9,58 +9,58 @@ use Rattle.calc_model.specs.declared.tree.Op.{Op}
 use Rattle.calc_model.specs.declared.tree.Op.TheVariants.{Pow, Mul, Div, Add, Sub, Cat, Eq, Ne, Lt, Le, Gt, Ge}
 use Rattle.calc_model.specs.declared.tree.Tree.{Tree}
 use Rattle.calc_model.specs.declared.tree.Tree.TheVariants as t
-use Rattle.calc_model.specs.Grammar.{in_capitals, op_row, op_text, IsPrimary, IsRow, AreArgs, AreSomeArgs, call, lower, minus, more, none, one, operated, parenthesis, percent, plus, primary, some}
+use Rattle.calc_model.specs.Grammar.{in_capitals, op_level, op_text, IsPrimary, IsLevel, AreArgs, AreSomeArgs, call, looser, minus, more, none, one, operated, parenthesis, percent, plus, primary, some}
 use Rattle.calc_model.specs.Tokens.{is_identifier}
 
 -- a looser row
-pub loosened : (text : List ℕ) (x : Tree) (k row : ℕ) → row ≤ k → IsRow row text x → IsRow k text x
+pub loosened : (text : List ℕ) (x : Tree) (k row : ℕ) → row ≤ k → IsLevel row text x → IsLevel k text x
 loosened text x zero row within is =
-    let Spelled : ℕ → Type 0 = λ n. IsRow n text x in
+    let Spelled : ℕ → Type 0 = λ n. IsLevel n text x in
     let same : row ≡ 0 = omega arith in
     subst Spelled same is
 loosened text x (suc k) row within is =
-    let Spelled : ℕ → Type 0 = λ n. IsRow n text x in
+    let Spelled : ℕ → Type 0 = λ n. IsLevel n text x in
     elim (cases_lt k row) [
       | inl above ↦ let same : row ≡ suc k = omega arith in subst Spelled same is
-      | inr below ↦ lower (loosened text x k row below is)
+      | inr below ↦ looser (loosened text x k row below is)
     ]
 
-pub op_row-most : (op : Op) → op_row op ≤ 6
-op_row-most Pow = omega arith
-op_row-most Mul = omega arith
-op_row-most Div = omega arith
-op_row-most Add = omega arith
-op_row-most Sub = omega arith
-op_row-most Cat = omega arith
-op_row-most Eq = omega arith
-op_row-most Ne = omega arith
-op_row-most Lt = omega arith
-op_row-most Le = omega arith
-op_row-most Gt = omega arith
-op_row-most Ge = omega arith
+pub op_level-most : (op : Op) → op_level op ≤ 6
+op_level-most Pow = omega arith
+op_level-most Mul = omega arith
+op_level-most Div = omega arith
+op_level-most Add = omega arith
+op_level-most Sub = omega arith
+op_level-most Cat = omega arith
+op_level-most Eq = omega arith
+op_level-most Ne = omega arith
+op_level-most Lt = omega arith
+op_level-most Le = omega arith
+op_level-most Gt = omega arith
+op_level-most Ge = omega arith
 
-op_row-some : (op : Op) → op_row op ≡ suc (op_row op - 1)
-op_row-some Pow = refl
-op_row-some Mul = refl
-op_row-some Div = refl
-op_row-some Add = refl
-op_row-some Sub = refl
-op_row-some Cat = refl
-op_row-some Eq = refl
-op_row-some Ne = refl
-op_row-some Lt = refl
-op_row-some Le = refl
-op_row-some Gt = refl
-op_row-some Ge = refl
+op_level-some : (op : Op) → op_level op ≡ suc (op_level op - 1)
+op_level-some Pow = refl
+op_level-some Mul = refl
+op_level-some Div = refl
+op_level-some Add = refl
+op_level-some Sub = refl
+op_level-some Cat = refl
+op_level-some Eq = refl
+op_level-some Ne = refl
+op_level-some Lt = refl
+op_level-some Le = refl
+op_level-some Gt = refl
+op_level-some Ge = refl
 
 -- an infix operator between its operands
-pub printed_binary : (op : Op) (left right : List ℕ) (x y : Tree) → IsRow (op_row op) left x → IsRow (op_row op - 1) right y → IsRow (op_row op) (left ++ op_text op ++ right) (t.Binary op x y)
+pub printed_binary : (op : Op) (left right : List ℕ) (x y : Tree) → IsLevel (op_level op) left x → IsLevel (op_level op - 1) right y → IsLevel (op_level op) (left ++ op_text op ++ right) (t.Binary op x y)
 printed_binary op left right x y is_left is_right =
-    let row = op_row op - 1 in
-    let Left : ℕ → Type 0 = λ n. IsRow n left x in
-    let Whole : ℕ → Type 0 = λ n. IsRow n (left ++ op_text op ++ right) (t.Binary op x y) in
-    let Spelled : List ℕ → Type 0 = λ text. IsRow (suc row) text (t.Binary op x y) in
-    let some = op_row-some op in
+    let row = op_level op - 1 in
+    let Left : ℕ → Type 0 = λ n. IsLevel n left x in
+    let Whole : ℕ → Type 0 = λ n. IsLevel n (left ++ op_text op ++ right) (t.Binary op x y) in
+    let Spelled : List ℕ → Type 0 = λ text. IsLevel (suc row) text (t.Binary op x y) in
+    let some = op_level-some op in
     subst Whole (sym some)
     (subst Spelled (sym (append_assoc left (op_text op) right))
     (operated op [] (subst Left some is_left) some refl is_right))
@@ -76,7 +76,7 @@ join_with_byte-first text (next ∷ texts) = ap (λ rest. text ++ (59 ∷ rest))
 
 -- each tree is a comparison
 abbrev pub AreComparisons : (Tree → List ℕ) → List Tree → Type 0
-AreComparisons print trees = AllByRecursion (λ x. IsRow 6 (print x) x) trees
+AreComparisons print trees = AllByRecursion (λ x. IsLevel 6 (print x) x) trees
 
 more_args : (print : Tree → List ℕ) (xs : List Tree) → AreComparisons print xs → (front : List ℕ) (args : List Tree) → AreSomeArgs front args → AreSomeArgs (front ++ behind_first (map print xs)) (args ++ xs)
 more_args print [] each front args before =
@@ -98,7 +98,7 @@ printed_args print (x ∷ xs) each =
     some (subst Texts (sym (join_with_byte-first (print x) (map print xs))) (more_args print xs each.1 (print x) (x ∷ []) (one each.0)))
 
 -- a call by its name in capitals
-pub printed_call : (name text : List ℕ) (args : List Tree) → is_identifier name ≡ true → in_capitals name ≡ name → AreArgs text args → IsRow 0 (name ++ codes "(" ++ text ++ codes ")") (t.Call name args)
+pub printed_call : (name text : List ℕ) (args : List Tree) → is_identifier name ≡ true → in_capitals name ≡ name → AreArgs text args → IsLevel 0 (name ++ codes "(" ++ text ++ codes ")") (t.Call name args)
 printed_call name text args identifier same is =
     let Texts : List ℕ → Type 0 = λ bytes. IsPrimary bytes (t.Call name args) in
     let Names : List ℕ → Type 0 = λ capitals. IsPrimary (name ++ (40 ∷ (text ++ (41 ∷ [])))) (t.Call capitals args) in
@@ -106,14 +106,14 @@ printed_call name text args identifier same is =
     append_assoc (name ++ codes "(") text (codes ")") ∙ append_assoc name (codes "(") (text ++ codes ")") in
     primary (subst Texts (sym joined) (subst Names same (call name [] [] [] identifier refl refl is refl)))
 
-pub printed_parenthesis : (text : List ℕ) (x : Tree) → IsRow 6 text x → IsRow 0 (codes "(" ++ text ++ codes ")") (t.Paren x)
+pub printed_parenthesis : (text : List ℕ) (x : Tree) → IsLevel 6 text x → IsLevel 0 (codes "(" ++ text ++ codes ")") (t.Paren x)
 printed_parenthesis text x is = primary (parenthesis [] [] refl is refl)
 
-pub printed_plus : (text : List ℕ) (x : Tree) → IsRow 0 text x → IsRow 0 (codes "+" ++ text) (t.Plus x)
+pub printed_plus : (text : List ℕ) (x : Tree) → IsLevel 0 text x → IsLevel 0 (codes "+" ++ text) (t.Plus x)
 printed_plus text x is = plus [] refl is
 
-pub printed_minus : (text : List ℕ) (x : Tree) → IsRow 0 text x → IsRow 0 (codes "-" ++ text) (t.Minus x)
+pub printed_minus : (text : List ℕ) (x : Tree) → IsLevel 0 text x → IsLevel 0 (codes "-" ++ text) (t.Minus x)
 printed_minus text x is = minus [] refl is
 
-pub printed_percent : (text : List ℕ) (x : Tree) → IsRow 1 text x → IsRow 1 (text ++ codes "%") (t.Percent x)
+pub printed_percent : (text : List ℕ) (x : Tree) → IsLevel 1 text x → IsLevel 1 (text ++ codes "%") (t.Percent x)
 printed_percent text x is = percent [] is refl

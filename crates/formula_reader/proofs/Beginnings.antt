@@ -9,7 +9,7 @@ use Rattle.std.proofs.lemmas.Bool.Decides.{nat_tests}
 use Rattle.std.proofs.lemmas.List.Sums.{take_while-cons}
 use Rattle.calc_num.specs.Spelling.{Unsigned, behind_digits, fraction_digits, front_digits, is_negative, behind_sign, reading, unsigned}
 use Rattle.calc_model.specs.Contents.{is_error_constant}
-use Rattle.calc_model.specs.Grammar.{AreSomeArgs, IsOperand, IsPrimary, IsRow, call, error, is_signed, large_number, lower, minus, more, name, number, one, op_text, operand, operated, parenthesis, percent, plus, primary, reference, string}
+use Rattle.calc_model.specs.Grammar.{AreSomeArgs, IsOperand, IsPrimary, IsLevel, call, error, is_signed, large_number, looser, minus, more, name, number, one, op_text, operand, operated, parenthesis, percent, plus, primary, reference, string}
 use Rattle.calc_model.specs.Tokens.{are_blanks, begins_identifier, has_identifier_bytes, is_blank, is_identifier, is_in_identifier}
 use Rattle.calc_model.specs.ValueTexts.{fault_text}
 use Rattle.calc_model.specs.declared.fault.Fault.{Fault}
@@ -112,12 +112,12 @@ primary_begins (call word blanks first last i a b args c) = begins-append is_sta
 start_row : (byte : ℕ) → is_start byte ≡ true → is_row_start byte ≡ true
 start_row byte h = or_left (is_start byte) (is_sign byte) h
 
-pub row_begins : {k : ℕ} {text : List ℕ} {x : Tree} → IsRow k text x → begins is_row_start text ≡ true
+pub row_begins : {k : ℕ} {text : List ℕ} {x : Tree} → IsLevel k text x → begins is_row_start text ≡ true
 row_begins (primary {text = front} p) = begins_more is_start is_row_start front start_row (primary_begins p)
 row_begins (plus blanks all r) = refl
 row_begins (minus blanks all r) = refl
 row_begins (percent {text = front} blanks r all) = begins-append is_row_start front (37 ∷ blanks) (row_begins r)
-row_begins (lower r) = row_begins r
+row_begins (looser r) = row_begins r
 row_begins (operated {left = front} {right = back} op blanks l here all r) = begins-append is_row_start front (op_text op ++ (blanks ++ back)) (row_begins l)
 
 pub some_begins : {text : List ℕ} {args : List Tree} → AreSomeArgs text args → begins is_row_start text ≡ true

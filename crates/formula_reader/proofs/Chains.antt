@@ -60,9 +60,9 @@ module _ (comparison : Unread → Read) where
   arg_given l after read e some given = arg_token l e ∙ ap (λ o. o >>= comparison >>= arg_read) some ∙ ap (λ o. o >>= arg_read) given
 
 -- parameters, of which there is one
-pub args_first : (nested : Inside) (l : Unread) (first : Tree × Unread) → is_at 41 l.bytes ≡ false → nested.read l ≡ Some first → args_at nested l ≡ more_args nested.read first
+pub args_first : (nested : Inside) (l : Unread) (first : Tree × Unread) → is_at 41 l.bytes ≡ false → nested.read l ≡ Some first → args_at nested l ≡ more_args nested.read nested.more first
 unfolding args_at
-args_first nested l first e given = ap (λ b. args_by nested b l) e ∙ ap (λ o. o >>= more_args nested.read) given
+args_first nested l first e given = ap (λ b. args_by nested b l) e ∙ ap (λ o. o >>= more_args nested.read nested.more) given
 
 -- where a parameter fails, all of them do
 pub args_fail : (nested : Unread → Read) {A : Type 0} (stop : Stop) (step : Option A) (n : ℕ) (args : List Tree) (l : Unread) (whole : Option (List Tree × Unread)) → 0 < n → (step ≡ None → arg_behind nested l ≡ None) → chain (arg_behind nested) pushed n args l ≡ whole → Fails stop step → Fails stop whole

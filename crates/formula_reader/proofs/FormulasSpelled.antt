@@ -6,14 +6,14 @@ use Rattle.std.proofs.lemmas.Bool.{and_from, eqb-true, le-leb, ltb-false}
 use Rattle.std.proofs.lemmas.List.{append-nil, take-append-drop}
 use Rattle.std.proofs.lemmas.Option.{same_Some}
 use Rattle.std.proofs.lemmas.Slice.Eq.{bytes_eq-Decides}
-use Rattle.calc_model.specs.Field.{SpellsInLimits}
-use Rattle.calc_model.specs.Grammar.{IsFront, doubled, long, long_doubled, short}
-use Rattle.calc_model.specs.Limits.{is_in_limits}
+use Rattle.calc_model.specs.Grammar.{IsFront, Spells, doubled, long, long_doubled, short}
+use Rattle.calc_model.specs.Limits.{InLimits, is_in_limits}
 use Rattle.calc_model.specs.Tokens.{is_blank}
 use Rattle.calc_model.specs.declared.tree.Tree.{Tree}
 use Rattle.formula_reader.specs.Unread.{◌>>=◌, Unread, is_at, skip}
-use Rattle.formula_reader.specs.Reading.{behind_equals, behind_front, comparison_of, formula_by, formula_of, whole, without}
+use Rattle.formula_reader.specs.Reading.{behind_equals, behind_front, comparison_within, formula_by, formula_of, formula_within, whole, without}
 use Rattle.formula_reader.specs.Rows.{comparison_at}
+use Rattle.formula_reader.proofs.FormulasRead.{one_tree}
 use Rattle.formula_reader.proofs.Fronts.{at}
 use Rattle.formula_reader.proofs.NumberFronts.{empty_from, some_or}
 use Rattle.formula_reader.proofs.RowsSpelled.{comparison_sound}
@@ -71,41 +71,49 @@ in_limits x tokens opens parameters =
     (and_from (nat_le (tokens_of x) 1024) (nat_le (open_of x) 64) (le-leb (tokens_of x) 1024 tokens) (le-leb (open_of x) 64 opens))
     (le-leb (parameters_of x) 30 parameters)
 
-by_length : (text : List ℕ) (tree : Tree) (b : Bool) → formula_by b text ≡ Some tree → (b ≡ false) × ((behind_front text >>= comparison_of) ≡ Some tree)
+by_length : (text : List ℕ) (tree : Tree) (b : Bool) → formula_by b text ≡ Some tree → (b ≡ false) × (formula_within 29 65 1024 text ≡ Some tree)
 by_length text tree true h = cc
 by_length text tree false h = (refl, h)
 
-parts : (text : List ℕ) (tree : Tree) → formula_of text ≡ Some tree → (length text ≤ 8192) × ((behind_front text >>= comparison_of) ≡ Some tree)
+parts : (text : List ℕ) (tree : Tree) → formula_of text ≡ Some tree → (length text ≤ 8192) × (formula_within 29 65 1024 text ≡ Some tree)
 unfolding formula_of
 parts text tree h =
     let both = by_length text tree (nat_lt 8192 (length text)) h in
     (ltb-false 8192 (length text) both.0, both.1)
 
-pub formula_spelled : (text : List ℕ) (tree : Tree) → formula_of text ≡ Some tree → SpellsInLimits text tree
-formula_spelled text tree h =
+counted : (text : List ℕ) (tree : Tree) → formula_of text ≡ Some tree → (length text ≤ 8192) × Spells text tree × (is_in_limits tree ≡ true)
+counted text tree h =
     let both = parts text tree h in
-    let first = bind_some (behind_front text) comparison_of tree both.1 in
+    let first = bind_some (behind_front text) (comparison_within 29 65 1024) tree both.1 in
     let bytes = first.0 in
     let front = front_says text bytes first.1 in
     let start : Unread = at (skip bytes) 1024 in
-    let read = bind_some (comparison_at 65 start) whole tree first.2 in
+    let read = bind_some (comparison_at 29 65 start) whole tree first.2 in
     let x = read.0.0 in
-    let s = comparison_sound 65 start read.0 (behind_stops is_blank bytes) read.1 in
+    let s = comparison_sound 29 65 start read.0 (behind_stops is_blank bytes) read.1 in
     let last = some_or (length read.0.1.bytes == 0) (Some x) tree read.2 in
     let same = same_Some x tree last.1 in
     let ended : skip bytes ≡ s.text = s.joined ∙ ap (λ b. s.text ++ b) (empty_from read.0.1.bytes last.0) ∙ append-nil s.text in
     let tokens : 1024 ≡ tokens_of x + read.0.1.tokens = s.tokens in
     let opens = s.opens in
-    subst (SpellsInLimits text) same record {
-      short = both.0;
-      spelled = record {
-        front = front.front;
-        blanks = take_while is_blank bytes;
-        comparison = s.text;
-        is_front = front.is_front;
-        are_blank = front_passes is_blank bytes;
-        spelled = s.is_row;
-        joined = front.joined ∙ ap (λ b. front.front ++ b) (front_and_behind is_blank bytes ∙ ap (λ b. take_while is_blank bytes ++ b) ended);
-      };
-      in_limits = in_limits x (omega arith) (omega arith) s.parameters;
-    }
+    let spelled : Spells text x = record {
+      front = front.front;
+      blanks = take_while is_blank bytes;
+      comparison = s.text;
+      is_front = front.is_front;
+      are_blank = front_passes is_blank bytes;
+      spelled = s.is_row;
+      joined = front.joined ∙ ap (λ b. front.front ++ b) (front_and_behind is_blank bytes ∙ ap (λ b. take_while is_blank bytes ++ b) ended);
+    } in
+    subst (λ y. (length text ≤ 8192) × Spells text y × (is_in_limits y ≡ true)) same
+    (both.0, spelled, in_limits x (omega arith) (omega arith) s.parameters)
+
+pub formula_spelled : (text : List ℕ) (tree : Tree) → formula_of text ≡ Some tree → Spells text tree × InLimits text
+formula_spelled text tree h =
+    let read = counted text tree h in (
+      read.1,
+      record {
+        short = read.0;
+        counted = λ other spelled. ap is_in_limits (one_tree text other tree spelled read.1) ∙ read.2;
+      },
+    )

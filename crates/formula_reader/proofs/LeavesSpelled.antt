@@ -15,7 +15,7 @@ use Rattle.calc_num.specs.declared.parse.Reading.{Reading}
 use Rattle.calc_num.specs.declared.parse.Reading.TheVariants as readings
 use Rattle.calc_addr.specs.Bracketed.{spelled_reference}
 use Rattle.calc_model.specs.Contents.{is_error_constant}
-use Rattle.calc_model.specs.Fields.{error_constants}
+use Rattle.calc_model.specs.Field.{error_constants}
 use Rattle.calc_model.specs.Grammar.{IsOperand, error, is_signed, large_number, number, reference, string}
 use Rattle.calc_model.specs.Tokens.{doubled, quoted}
 use Rattle.calc_model.specs.ValueTexts.{fault_text}

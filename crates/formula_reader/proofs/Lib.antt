@@ -22,7 +22,8 @@ pub mod OperatorsSpelled
 pub mod SignsSpelled
 pub mod RowsSpelled
 pub mod FormulasSpelled
-pub mod FieldsRead
+pub mod Meaning
+pub mod OneMeaning
 pub mod Capitals
 pub mod FormedSpellings
 mod FieldExamples

@@ -2,7 +2,7 @@
 use Rattle.std.proofs.Common.{◌≡◌, ◌<◌, ◌+◌, ℕ, Bool, true, false, ◌||◌, List, [], ◌∷◌, ◌++◌, Option, Some, None, refl, ap, ◌∙◌, arith}
 use Rattle.std.specs.Prelude.{◌==◌}
 use Rattle.std.proofs.lemmas.Bool.{cond-false, cond-true, eq-eqb, ne_eqb, or_parts}
-use Rattle.calc_model.specs.Grammar.{op_row, op_text}
+use Rattle.calc_model.specs.Grammar.{op_level, op_text}
 use Rattle.calc_model.specs.Tokens.{are_blanks}
 use Rattle.calc_model.specs.declared.tree.Op.{Op}
 use Rattle.calc_model.specs.declared.tree.Op.TheVariants.{Pow, Mul, Div, Add, Sub, Cat, Eq, Ne, Lt, Le, Gt, Ge}
@@ -61,7 +61,7 @@ Follows-infix Le rest = refl
 Follows-infix Gt rest = refl
 Follows-infix Ge rest = refl
 
-pub row_behind-infix : (op : Op) (rest : List ℕ) → begins is_second rest ≡ false → row_behind (op_text op ++ rest) ≡ op_row op
+pub row_behind-infix : (op : Op) (rest : List ℕ) → begins is_second rest ≡ false → row_behind (op_text op ++ rest) ≡ op_level op
 row_behind-infix op rest h = ap row_found (infix_in_front op rest h)
 
 of_row-none : (found : Option (Operator × List ℕ)) (row : ℕ) → row < row_found found → of_row row found ≡ None
@@ -73,11 +73,11 @@ module _ (below : Unread → Read) where
   unfolding tail_at
   tail_none row rest m h = ap (λ found. tail_by below found m) (of_row-none (operator_at rest) row h)
 
-  pub tail_infix : (op : Op) (row : ℕ) (blanks rest : List ℕ) (m n : ℕ) → op_row op ≡ row → n ≡ 1 + m → are_blanks blanks ≡ true → begins is_second (blanks ++ rest) ≡ false → begins is_blank rest ≡ false → tail_at below row (at (op_text op ++ (blanks ++ rest)) n) ≡ (below (at rest m) >>= infix_tail below op)
+  pub tail_infix : (op : Op) (row : ℕ) (blanks rest : List ℕ) (m n : ℕ) → op_level op ≡ row → n ≡ 1 + m → are_blanks blanks ≡ true → begins is_second (blanks ++ rest) ≡ false → begins is_blank rest ≡ false → tail_at below row (at (op_text op ++ (blanks ++ rest)) n) ≡ (below (at rest m) >>= infix_tail below op)
   unfolding tail_at
   tail_infix op row blanks rest m n here tokens all second none =
       ap (λ found. tail_by below (of_row row found) n) (infix_in_front op (blanks ++ rest) second)
-      ∙ ap (λ found. tail_by below found n) (cond-true (op_row op == row) _ _ (eq-eqb (op_row op) row here))
+      ∙ ap (λ found. tail_by below found n) (cond-true (op_level op == row) _ _ (eq-eqb (op_level op) row here))
       ∙ ap (λ l. l >>= tail_behind below (o.Infix op)) (past-blanks blanks rest m n tokens all none)
 
   pub tail_percent : (blanks rest : List ℕ) (m n : ℕ) → n ≡ 1 + m → are_blanks blanks ≡ true → Follows rest → tail_at below 1 (at (37 ∷ (blanks ++ rest)) n) ≡ Some (Some (tails.Percent, at rest m))

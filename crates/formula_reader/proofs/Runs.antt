@@ -127,13 +127,13 @@ module _ (nested : Unread → Read) where
       }
 
   -- all parameters, up to the parenthesis
-  pub all_args : (text : List ℕ) (args : List Tree) (rest : List ℕ) (m : ℕ) → ArgRuns nested text args (41 ∷ rest) m → length args ≤ 30 → (first : Tree × Unread) → nested (at (text ++ (41 ∷ rest)) (args_tokens args + m)) ≡ Some first → more_args nested first ≡ Some (args, at (41 ∷ rest) m)
-  all_args text args rest m r short first given =
-      let j = 29 - r.turns in
+  pub all_args : (text : List ℕ) (args : List Tree) (rest : List ℕ) (m : ℕ) → ArgRuns nested text args (41 ∷ rest) m → (more : ℕ) → length args ≤ suc more → (first : Tree × Unread) → nested (at (text ++ (41 ∷ rest)) (args_tokens args + m)) ≡ Some first → more_args nested more first ≡ Some (args, at (41 ∷ rest) m)
+  all_args text args rest m r more short first given =
+      let j = more - r.turns in
       let count = r.count in
-      let turns : 29 ≡ r.turns + j = omega arith in
+      let turns : more ≡ r.turns + j = omega arith in
       let same : first ≡ (r.from, r.after) = same_Some first (r.from, r.after) (sym given ∙ r.starts) in
-      ap (more_args nested) same
+      ap (more_args nested more) same
       ∙ ap (λ n. chain (arg_behind nested) pushed n (r.from ∷ []) r.after) turns
       ∙ r.goes j
       ∙ chain_stops (arg_behind nested) pushed j args (at (41 ∷ rest) m) (arg_stops nested (at (41 ∷ rest) m) refl)

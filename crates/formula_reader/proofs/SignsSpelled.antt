@@ -3,7 +3,7 @@ use Rattle.std.proofs.Common.{◌≡◌, ◌+◌, ℕ, Bool, true, false, ◌||�
 use Rattle.std.specs.Prelude.{◌==◌}
 use Rattle.std.specs.List.{count_by, list_all}
 use Rattle.std.proofs.lemmas.Bool.{and_from, and_parts, cond-false, cond-true, eqb-true, or_from}
-use Rattle.calc_model.specs.Grammar.{IsRow, minus, plus}
+use Rattle.calc_model.specs.Grammar.{IsLevel, minus, plus}
 use Rattle.calc_model.specs.Tokens.{are_blanks, is_blank}
 use Rattle.calc_model.specs.declared.tree.Tree.{Tree}
 use Rattle.calc_model.specs.declared.tree.Tree.TheVariants as t
@@ -17,7 +17,7 @@ pub record Signed (front text : List ℕ) (x : Tree) : Type 0 where
   pub behind : List ℕ
   pub are_blank : are_blanks blanks ≡ true
   pub joined : front ++ text ≡ blanks ++ behind
-  pub row : IsRow 0 behind (signed front x)
+  pub row : IsLevel 0 behind (signed front x)
   pub tokens : tokens_of (signed front x) ≡ count_by is_sign front + tokens_of x
   pub opens : open_of (signed front x) ≡ open_of x
   pub parameters : parameters_of (signed front x) ≡ parameters_of x
@@ -37,7 +37,7 @@ with_sign byte front text x true minussed e f passes s =
       behind = 43 ∷ (s.blanks ++ s.behind);
       are_blank = refl;
       joined = ap (λ b. b ∷ (front ++ text)) (eqb-true byte 43 e) ∙ ap (λ b. 43 ∷ b) s.joined;
-      row = subst (IsRow 0 (43 ∷ (s.blanks ++ s.behind))) (sym made) (plus s.blanks s.are_blank s.row);
+      row = subst (IsLevel 0 (43 ∷ (s.blanks ++ s.behind))) (sym made) (plus s.blanks s.are_blank s.row);
       tokens = ap tokens_of made ∙ tokens;
       opens = ap open_of made ∙ counts.opens ∙ s.opens;
       parameters = ap parameters_of made ∙ counts.parameters ∙ s.parameters;
@@ -56,7 +56,7 @@ with_sign byte front text x false true e f passes s =
       behind = 45 ∷ (s.blanks ++ s.behind);
       are_blank = refl;
       joined = ap (λ b. b ∷ (front ++ text)) (eqb-true byte 45 f) ∙ ap (λ b. 45 ∷ b) s.joined;
-      row = subst (IsRow 0 (45 ∷ (s.blanks ++ s.behind))) (sym made) (minus s.blanks s.are_blank s.row);
+      row = subst (IsLevel 0 (45 ∷ (s.blanks ++ s.behind))) (sym made) (minus s.blanks s.are_blank s.row);
       tokens = ap tokens_of made ∙ tokens;
       opens = ap open_of made ∙ counts.opens ∙ s.opens;
       parameters = ap parameters_of made ∙ counts.parameters ∙ s.parameters;
@@ -74,13 +74,13 @@ with_sign byte front text x false false e f passes s =
       behind = s.behind;
       are_blank = and_from (is_blank byte) (are_blanks s.blanks) blank s.are_blank;
       joined = ap (λ b. byte ∷ b) s.joined;
-      row = subst (IsRow 0 s.behind) (sym made) s.row;
+      row = subst (IsLevel 0 s.behind) (sym made) s.row;
       tokens = ap tokens_of made ∙ tokens;
       opens = ap open_of made ∙ s.opens;
       parameters = ap parameters_of made ∙ s.parameters;
     }
 
-pub signs_say : (front text : List ℕ) (x : Tree) → list_all is_sign_or_blank front ≡ true → IsRow 0 text x → Signed front text x
+pub signs_say : (front text : List ℕ) (x : Tree) → list_all is_sign_or_blank front ≡ true → IsLevel 0 text x → Signed front text x
 signs_say [] text x all row = record { blanks = []; behind = text; are_blank = refl; joined = refl; row = row; tokens = omega arith; opens = refl; parameters = refl }
 signs_say (byte ∷ front) text x all row =
     let parts = and_parts (is_sign_or_blank byte) (list_all is_sign_or_blank front) all in

@@ -4,7 +4,7 @@ use Rattle.std.specs.Prelude.{◌==◌}
 use Rattle.std.proofs.lemmas.Bool.{lt-ltb}
 use Rattle.std.proofs.lemmas.Bool.Decides.{nat_tests}
 use Rattle.std.proofs.lemmas.List.{length-append}
-use Rattle.calc_model.specs.Grammar.{AreArgs, AreSomeArgs, IsPrimary, IsRow, call, in_capitals, lower, minus, more, none, one, op_row, op_text, operand, operated, parenthesis, percent, plus, primary, some}
+use Rattle.calc_model.specs.Grammar.{AreArgs, AreSomeArgs, IsPrimary, IsLevel, call, in_capitals, looser, minus, more, none, one, op_level, op_text, operand, operated, parenthesis, percent, plus, primary, some}
 use Rattle.calc_model.specs.Tokens.{are_blanks, is_blank}
 use Rattle.calc_model.specs.declared.tree.Op.{Op}
 use Rattle.calc_model.specs.declared.tree.Tree.{Tree}
@@ -39,7 +39,7 @@ row_no_second byte h = grind (arith, nat_tests)
 row_no_end : (byte : ℕ) → is_row_start byte ≡ true → (byte == 41) ≡ false
 row_no_end byte h = grind (arith, nat_tests)
 
-infix_read : (nested : Inside) (row : ℕ) (op : Op) (blanks left right rest : List ℕ) (x y : Tree) (m : ℕ) → Claim nested (suc row) left x → op_row op ≡ suc row → are_blanks blanks ≡ true → begins is_row_start right ≡ true → Follows rest → Reads (row_at nested row) right y rest m → Runs nested row (left ++ (op_text op ++ (blanks ++ right))) (t.Binary op x y) rest m
+infix_read : (nested : Inside) (row : ℕ) (op : Op) (blanks left right rest : List ℕ) (x y : Tree) (m : ℕ) → Claim nested (suc row) left x → op_level op ≡ suc row → are_blanks blanks ≡ true → begins is_row_start right ≡ true → Follows rest → Reads (row_at nested row) right y rest m → Runs nested row (left ++ (op_text op ++ (blanks ++ right))) (t.Binary op x y) rest m
 infix_read nested row op blanks left right rest x y m claim here all starts follows reads =
     let below = row_at nested row in
     let back = op_text op ++ (blanks ++ (right ++ rest)) in
@@ -65,19 +65,19 @@ percent_read nested blanks text rest x m claim all follows =
     (claim back (1 + m) refl (omega arith)) (append_assoc text (37 ∷ blanks) rest) (omega arith) refl (omega arith)
     (tail_percent (row_at nested 0) blanks rest m (1 + m) refl all follows)
 
-pub comparison_reads : (levels : ℕ) (text : List ℕ) (x : Tree) → Claim (nested_at levels) 6 text x → (rest : List ℕ) (m : ℕ) → Follows rest → 6 < row_behind rest → Reads (comparison_at (suc levels)) text x rest m
+pub comparison_reads : (others levels : ℕ) (text : List ℕ) (x : Tree) → Claim (nested_at others levels) 6 text x → (rest : List ℕ) (m : ℕ) → Follows rest → 6 < row_behind rest → Reads (comparison_at others (suc levels)) text x rest m
 unfolding comparison_at
-comparison_reads levels text x claim rest m follows h = claim_reads (nested_at levels) 6 text x claim rest m follows h
+comparison_reads others levels text x claim rest m follows h = claim_reads (nested_at others levels) 6 text x claim rest m follows h
 
 no_args : (nested : Inside) (rest : List ℕ) (m n : ℕ) → n ≡ m → args_at nested (at (41 ∷ rest) n) ≡ Some ([], at (41 ∷ rest) m)
 unfolding args_at
 no_args nested rest m n e = ap (λ k. Some ([], at (41 ∷ rest) k)) e
 
-some_args : (nested : Inside) (text rest : List ℕ) (args : List Tree) (m : ℕ) → begins is_row_start text ≡ true → length args ≤ 30 → ArgRuns nested.read text args (41 ∷ rest) m → args_at nested (at (text ++ (41 ∷ rest)) (args_tokens args + m)) ≡ Some (args, at (41 ∷ rest) m)
+some_args : (nested : Inside) (text rest : List ℕ) (args : List Tree) (m : ℕ) → begins is_row_start text ≡ true → length args ≤ suc nested.more → ArgRuns nested.read text args (41 ∷ rest) m → args_at nested (at (text ++ (41 ∷ rest)) (args_tokens args + m)) ≡ Some (args, at (41 ∷ rest) m)
 some_args nested text rest args m starts short r =
     let l = at (text ++ (41 ∷ rest)) (args_tokens args + m) in
     args_first nested l (r.from, r.after) (other_at (text ++ (41 ∷ rest)) (begins_other (λ b. b == 41) is_row_start (text ++ (41 ∷ rest)) row_no_end (begins-append is_row_start text (41 ∷ rest) starts))) r.starts
-    ∙ all_args nested.read text args rest m r short (r.from, r.after) r.starts
+    ∙ all_args nested.read text args rest m r nested.more short (r.from, r.after) r.starts
   where
     other_at : (bytes : List ℕ) → begins (λ b. b == 41) bytes ≡ false → is_at 41 bytes ≡ false
     other_at [] h = refl
@@ -98,39 +98,39 @@ args_no_blank rest (some {text = text} args) = row_no_blanks text (41 ∷ rest) 
 mutual
   unfolding row_at
 
-  pub row_read : {k : ℕ} {text : List ℕ} {x : Tree} → IsRow k text x → (levels : ℕ) → Within levels x → Claim (nested_at levels) k text x
-  row_read (primary {text = text} {x = x} p) levels within =
-      λ rest m follows. no_sign (nested_at levels) (text ++ rest) (tokens_of x + m) (primary_no_signs text rest (primary_begins p)) ∙ primary_read p levels within rest m follows
-  row_read (plus {text = text} {x = x} blanks all r) levels within =
+  pub row_read : {k : ℕ} {text : List ℕ} {x : Tree} → IsLevel k text x → (others levels : ℕ) → Within others levels x → Claim (nested_at others levels) k text x
+  row_read (primary {text = text} {x = x} p) others levels within =
+      λ rest m follows. no_sign (nested_at others levels) (text ++ rest) (tokens_of x + m) (primary_no_signs text rest (primary_begins p)) ∙ primary_read p others levels within rest m follows
+  row_read (plus {text = text} {x = x} blanks all r) others levels within =
       let counts = plus_counts x in
-      λ rest m follows. sign_read (nested_at levels) 43 blanks text rest x (t.Plus x) m refl all counts.tokens refl (row_read r levels (record { opens = subst (λ n. n ≤ levels) counts.opens within.opens; parameters = subst (λ n. n ≤ 30) counts.parameters within.parameters }) rest m follows)
-  row_read (minus {text = text} {x = x} blanks all r) levels within =
+      λ rest m follows. sign_read (nested_at others levels) 43 blanks text rest x (t.Plus x) m refl all counts.tokens refl (row_read r others levels (record { opens = subst (λ n. n ≤ levels) counts.opens within.opens; parameters = subst (λ n. n ≤ suc others) counts.parameters within.parameters }) rest m follows)
+  row_read (minus {text = text} {x = x} blanks all r) others levels within =
       let counts = minus_counts x in
-      λ rest m follows. sign_read (nested_at levels) 45 blanks text rest x (t.Minus x) m refl all counts.tokens refl (row_read r levels (record { opens = subst (λ n. n ≤ levels) counts.opens within.opens; parameters = subst (λ n. n ≤ 30) counts.parameters within.parameters }) rest m follows)
-  row_read (percent {text = text} {x = x} blanks r all) levels within =
+      λ rest m follows. sign_read (nested_at others levels) 45 blanks text rest x (t.Minus x) m refl all counts.tokens refl (row_read r others levels (record { opens = subst (λ n. n ≤ levels) counts.opens within.opens; parameters = subst (λ n. n ≤ suc others) counts.parameters within.parameters }) rest m follows)
+  row_read (percent {text = text} {x = x} blanks r all) others levels within =
       let counts = percent_counts x in
-      λ rest m follows h. percent_read (nested_at levels) blanks text rest x m (row_read r levels (record { opens = subst (λ n. n ≤ levels) counts.opens within.opens; parameters = subst (λ n. n ≤ 30) counts.parameters within.parameters })) all follows
-  row_read (lower {row = row} {text = text} {x = x} r) levels within =
-      λ rest m follows h. no_more (nested_at levels) row text x rest m (claim_reads (nested_at levels) row text x (row_read r levels within) rest m follows h)
-  row_read (operated {row = row} {left = left} {right = right} {x = x} {y = y} op blanks l here all r) levels within =
+      λ rest m follows h. percent_read (nested_at others levels) blanks text rest x m (row_read r others levels (record { opens = subst (λ n. n ≤ levels) counts.opens within.opens; parameters = subst (λ n. n ≤ suc others) counts.parameters within.parameters })) all follows
+  row_read (looser {level = row} {text = text} {x = x} r) others levels within =
+      λ rest m follows h. no_more (nested_at others levels) row text x rest m (claim_reads (nested_at others levels) row text x (row_read r others levels within) rest m follows h)
+  row_read (operated {level = row} {left = left} {right = right} {x = x} {y = y} op blanks l here all r) others levels within =
       let counts = binary_counts op x y in
       let opens = within.opens in
       let parameters = within.parameters in
       let own = counts.opens in
       let most = counts.parameters in
       λ rest m follows h.
-      infix_read (nested_at levels) row op blanks left right rest x y m (row_read l levels (record { opens = omega arith; parameters = omega arith })) here all (row_begins r) follows
-      (claim_reads (nested_at levels) row right y (row_read r levels (record { opens = omega arith; parameters = omega arith })) rest m follows h)
+      infix_read (nested_at others levels) row op blanks left right rest x y m (row_read l others levels (record { opens = omega arith; parameters = omega arith })) here all (row_begins r) follows
+      (claim_reads (nested_at others levels) row right y (row_read r others levels (record { opens = omega arith; parameters = omega arith })) rest m follows h)
 
-  primary_read : {text : List ℕ} {x : Tree} → IsPrimary text x → (levels : ℕ) → Within levels x → (rest : List ℕ) (m : ℕ) → Follows rest → Reads (primary_at (nested_at levels)) text x rest m
-  primary_read (operand {text = text} {x = x} blanks o all) levels within rest m follows =
+  primary_read : {text : List ℕ} {x : Tree} → IsPrimary text x → (others levels : ℕ) → Within others levels x → (rest : List ℕ) (m : ℕ) → Follows rest → Reads (primary_at (nested_at others levels)) text x rest m
+  primary_read (operand {text = text} {x = x} blanks o all) others levels within rest m follows =
       let one = operand_tokens o in
-      operand_read (nested_at levels) blanks rest m (tokens_of x + m) o (omega arith) all follows
-  primary_read (parenthesis {text = text} {x = x} first last a r b) zero within rest m follows =
+      operand_read (nested_at others levels) blanks rest m (tokens_of x + m) o (omega arith) all follows
+  primary_read (parenthesis {text = text} {x = x} first last a r b) others zero within rest m follows =
       let opens = within.opens in
       let counts = (paren_counts x).opens in
       absurd (omega arith)
-  primary_read (parenthesis {text = text} {x = x} first last a r b) (suc levels) within rest m follows =
+  primary_read (parenthesis {text = text} {x = x} first last a r b) others (suc levels) within rest m follows =
       let counts = paren_counts x in
       let tokens = counts.tokens in
       let opened = counts.opens in
@@ -138,15 +138,15 @@ mutual
       let opens = within.opens in
       let parameters = within.parameters in
       let back = 41 ∷ (last ++ rest) in
-      let inside = row_read r levels (record { opens = omega arith; parameters = omega arith }) in
-      ap (λ bytes. primary_at (nested_at (suc levels)) (at bytes (tokens_of (t.Paren x) + m))) (paren_parts first text last rest)
-      ∙ paren_read (nested_at (suc levels)) first text last rest x m (tokens_of x + (1 + m)) (tokens_of (t.Paren x) + m) a b (row_no_blanks text back (row_begins r)) follows (omega arith)
-      (comparison_reads levels text x inside back (1 + m) refl (lit< tt))
-  primary_read (call {text = text} {args = args} word blanks first last h a b p c) zero within rest m follows =
+      let inside = row_read r others levels (record { opens = omega arith; parameters = omega arith }) in
+      ap (λ bytes. primary_at (nested_at others (suc levels)) (at bytes (tokens_of (t.Paren x) + m))) (paren_parts first text last rest)
+      ∙ paren_read (nested_at others (suc levels)) first text last rest x m (tokens_of x + (1 + m)) (tokens_of (t.Paren x) + m) a b (row_no_blanks text back (row_begins r)) follows (omega arith)
+      (comparison_reads others levels text x inside back (1 + m) refl (lit< tt))
+  primary_read (call {text = text} {args = args} word blanks first last h a b p c) others zero within rest m follows =
       let opens = within.opens in
       let counts = (call_counts (in_capitals word) args).opens in
       absurd (omega arith)
-  primary_read (call {text = text} {args = args} word blanks first last h a b p c) (suc levels) within rest m follows =
+  primary_read (call {text = text} {args = args} word blanks first last h a b p c) others (suc levels) within rest m follows =
       let counts = call_counts (in_capitals word) args in
       let tokens = counts.tokens in
       let opened = counts.opens in
@@ -154,29 +154,29 @@ mutual
       let opens = within.opens in
       let parameters = within.parameters in
       let node = t.Call (in_capitals word) args in
-      ap (λ bytes. primary_at (nested_at (suc levels)) (at bytes (tokens_of node + m))) (call_parts word blanks first text last rest)
-      ∙ call_read (nested_at (suc levels)) word blanks first text last rest args m (args_tokens args + (1 + m)) (tokens_of node + m) h (lt-ltb 0 (suc levels) (omega arith)) a b c (args_no_blank (last ++ rest) p) follows (omega arith)
-      (args_read p levels (omega arith) (omega arith) (omega arith) (last ++ rest) (1 + m))
+      ap (λ bytes. primary_at (nested_at others (suc levels)) (at bytes (tokens_of node + m))) (call_parts word blanks first text last rest)
+      ∙ call_read (nested_at others (suc levels)) word blanks first text last rest args m (args_tokens args + (1 + m)) (tokens_of node + m) h (lt-ltb 0 (suc levels) (omega arith)) a b c (args_no_blank (last ++ rest) p) follows (omega arith)
+      (args_read p others levels (omega arith) (omega arith) (omega arith) (last ++ rest) (1 + m))
 
-  args_read : {text : List ℕ} {args : List Tree} → AreArgs text args → (levels : ℕ) → most_open args ≤ levels → most_parameters args ≤ 30 → length args ≤ 30 → (rest : List ℕ) (m : ℕ) → args_at (nested_at (suc levels)) (at (text ++ (41 ∷ rest)) (args_tokens args + m)) ≡ Some (args, at (41 ∷ rest) m)
-  args_read none levels opens parameters short rest m = no_args (nested_at (suc levels)) rest m (args_tokens [] + m) (omega arith)
-  args_read (some {text = text} {args = args} p) levels opens parameters short rest m =
-      some_args (nested_at (suc levels)) text rest args m (some_begins p) short (some_read p levels opens parameters (41 ∷ rest) m refl (lit< tt))
+  args_read : {text : List ℕ} {args : List Tree} → AreArgs text args → (others levels : ℕ) → most_open args ≤ levels → most_parameters args ≤ suc others → length args ≤ suc others → (rest : List ℕ) (m : ℕ) → args_at (nested_at others (suc levels)) (at (text ++ (41 ∷ rest)) (args_tokens args + m)) ≡ Some (args, at (41 ∷ rest) m)
+  args_read none others levels opens parameters short rest m = no_args (nested_at others (suc levels)) rest m (args_tokens [] + m) (omega arith)
+  args_read (some {text = text} {args = args} p) others levels opens parameters short rest m =
+      some_args (nested_at others (suc levels)) text rest args m (some_begins p) short (some_read p others levels opens parameters (41 ∷ rest) m refl (lit< tt))
 
-  some_read : {text : List ℕ} {args : List Tree} → AreSomeArgs text args → (levels : ℕ) → most_open args ≤ levels → most_parameters args ≤ 30 → (rest : List ℕ) (m : ℕ) → Follows rest → 6 < row_behind rest → ArgRuns (comparison_at (suc levels)) text args rest m
-  some_read (one {text = text} {x = x} r) levels opens parameters rest m follows h =
-      one_arg (comparison_at (suc levels)) text x rest m (comparison_reads levels text x (row_read r levels (record { opens = omega arith; parameters = omega arith })) rest m follows h)
-  some_read (more {front = front} {text = text} {args = args} {x = x} blanks p all r) levels opens parameters rest m follows h =
-      let nested = comparison_at (suc levels) in
+  some_read : {text : List ℕ} {args : List Tree} → AreSomeArgs text args → (others levels : ℕ) → most_open args ≤ levels → most_parameters args ≤ suc others → (rest : List ℕ) (m : ℕ) → Follows rest → 6 < row_behind rest → ArgRuns (comparison_at others (suc levels)) text args rest m
+  some_read (one {text = text} {x = x} r) others levels opens parameters rest m follows h =
+      one_arg (comparison_at others (suc levels)) text x rest m (comparison_reads others levels text x (row_read r others levels (record { opens = omega arith; parameters = omega arith })) rest m follows h)
+  some_read (more {front = front} {text = text} {args = args} {x = x} blanks p all r) others levels opens parameters rest m follows h =
+      let nested = comparison_at others (suc levels) in
       let back = 59 ∷ (blanks ++ (text ++ rest)) in
       let n = 1 + (tokens_of x + m) in
       let opened = most_open_push args x in
       let kept = most_parameters_push args x in
-      let runs : ArgRuns nested front args back n = some_read p levels (omega arith) (omega arith) back n refl (lit< tt) in
+      let runs : ArgRuns nested front args back n = some_read p others levels (omega arith) (omega arith) back n refl (lit< tt) in
       let count = runs.count in
       let tokens = all_tokens_push args x in
       let len : length (args ++ x ∷ []) ≡ length args + 1 = length-append args (x ∷ []) in
       let joined : (front ++ (59 ∷ (blanks ++ text))) ++ rest ≡ front ++ back = append_assoc front (59 ∷ (blanks ++ text)) rest ∙ ap (λ b. front ++ (59 ∷ b)) (append_assoc blanks text rest) in
       let given = arg_given nested (at back n) (at (text ++ rest) (tokens_of x + m)) (x, at rest m) refl (past-blanks blanks (text ++ rest) (tokens_of x + m) n refl all (row_no_blanks text rest (row_begins r)))
-      (comparison_reads levels text x (row_read r levels (record { opens = omega arith; parameters = omega arith })) rest m follows h) in
+      (comparison_reads others levels text x (row_read r others levels (record { opens = omega arith; parameters = omega arith })) rest m follows h) in
       more_arg nested front (front ++ (59 ∷ (blanks ++ text))) args x back rest m n runs joined (omega arith) len given

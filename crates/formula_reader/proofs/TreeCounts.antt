@@ -1,5 +1,5 @@
 -- The counts of a tree, by its top node.
-use Rattle.std.proofs.Common.{◌≡◌, ◌≤◌, ◌+◌, ◌-◌, ℕ, List, [], ◌∷◌, ◌++◌, length, max, map, sum, refl, ap, ◌∙◌, arith}
+use Rattle.std.proofs.Common.{◌≡◌, ◌≤◌, ◌+◌, ◌-◌, ℕ, suc, List, [], ◌∷◌, ◌++◌, length, max, map, sum, refl, ap, ◌∙◌, arith}
 use Rattle.std.proofs.lemmas.List.Sums.{fold_push, sum_by_push}
 use Rattle.calc_model.proofs.TreeFolds as folds
 use Rattle.calc_model.specs.Grammar.{IsOperand, error, large_number, name, number, reference, string}
@@ -17,10 +17,10 @@ open_of x = (counts_of x).open_at_once
 abbrev pub parameters_of : Tree → ℕ
 parameters_of x = (counts_of x).parameters
 
--- so many parentheses may be open, and so many parameters there be
-pub record Within (d : ℕ) (x : Tree) : Type 0 where
+-- so many parentheses may be open, and so many parameters there be behind the first
+pub record Within (more d : ℕ) (x : Tree) : Type 0 where
   pub opens : open_of x ≤ d
-  pub parameters : parameters_of x ≤ 30
+  pub parameters : parameters_of x ≤ suc more
 
 abbrev tokens : Counts → ℕ
 tokens c = c.tokens

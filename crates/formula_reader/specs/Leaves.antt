@@ -13,7 +13,7 @@ use Rattle.calc_model.specs.declared.fault.Fault.{Fault}
 use Rattle.calc_model.specs.declared.fault.Fault.TheVariants.{Over}
 use Rattle.calc_model.specs.declared.tree.Tree.{Tree}
 use Rattle.calc_model.specs.declared.tree.Tree.TheVariants as t
-use Rattle.calc_model.specs.Fields.{error_constants}
+use Rattle.calc_model.specs.Field.{error_constants}
 use Rattle.calc_model.specs.ValueTexts.{fault_text}
 use Rattle.formula_reader.specs.Unread.{◌>>=◌, beside}
 

@@ -1,6 +1,6 @@
 -- The operators behind an operand, at the front of what is left.
 use Rattle.std.specs.Prelude.{ℕ, ◌==◌, List, [], ◌∷◌, Option, Some, None, if◌then◌else◌, option_map}
-use Rattle.calc_model.specs.Grammar.{op_row}
+use Rattle.calc_model.specs.Grammar.{op_level}
 use Rattle.calc_model.specs.declared.tree.Op.TheVariants.{Pow, Mul, Div, Add, Sub, Cat, Eq, Ne, Lt, Le, Gt, Ge}
 use Rattle.calc_model.specs.declared.tree.Tree.{Tree}
 use Rattle.calc_model.specs.declared.tree.Tree.TheVariants as t
@@ -42,7 +42,7 @@ operator_at (byte ∷ rest) =
 -- the row of an operator
 abbrev pub row_of : Operator → ℕ
 row_of operators.Percent = 1
-row_of (operators.Infix op) = op_row op
+row_of (operators.Infix op) = op_level op
 
 -- only an operator of the row
 abbrev pub of_row : ℕ → Option (Operator × List ℕ) → Option (Operator × List ℕ)

@@ -1,6 +1,7 @@
 -- The reading of a formula's text: its tree, where the text spells one within the limits.
 use Rattle.std.specs.Prelude.{ℕ, ◌==◌, nat_eq, nat_lt, Bool, true, false, List, drop, length, codes, Option, Some, None, if◌then◌else◌}
 use Rattle.std.specs.List.{starts_with}
+use Rattle.calc_model.specs.declared.limits.TheConstants.{MOST_FORMULA_BYTES}
 use Rattle.calc_model.specs.declared.tree.Tree.{Tree}
 use Rattle.formula_reader.specs.Unread.{◌>>=◌, Unread, is_at, skip}
 use Rattle.formula_reader.specs.Rows.{comparison_at}
@@ -21,13 +22,17 @@ behind_front text = behind_equals (if starts_with nat_eq text (codes "of:") then
 abbrev pub whole : Tree × Unread → Option Tree
 whole read = if length read.1.bytes == 0 then Some read.0 else None
 
-abbrev pub comparison_of : List ℕ → Option Tree
-comparison_of bytes = comparison_at 65 (record { bytes = skip bytes; tokens = 1024 }) >>= whole
+-- a comparison with so many more parameters, levels of parentheses and tokens
+abbrev pub comparison_within : ℕ → ℕ → ℕ → List ℕ → Option Tree
+comparison_within more levels tokens bytes = comparison_at more levels (record { bytes = skip bytes; tokens = tokens }) >>= whole
+
+abbrev pub formula_within : ℕ → ℕ → ℕ → List ℕ → Option Tree
+formula_within more levels tokens text = behind_front text >>= comparison_within more levels tokens
 
 abbrev pub formula_by : Bool → List ℕ → Option Tree
 formula_by true text = None
-formula_by false text = behind_front text >>= comparison_of
+formula_by false text = formula_within 29 65 1024 text
 
 -- the formula that the text spells within the limits of reading, if it spells one
 unfoldable pub formula_of : List ℕ → Option Tree
-formula_of text = formula_by (nat_lt 8192 (length text)) text
+formula_of text = formula_by (nat_lt MOST_FORMULA_BYTES (length text)) text

@@ -23,10 +23,12 @@ use Rattle.formula_reader.specs.Operators.{attach, of_row, operator_at}
 abbrev pub Read : Type 0
 Read = Option (Tree × Unread)
 
--- Whether one more parenthesis may be opened, and how a comparison inside it is read.
+-- Whether one more parenthesis may be opened, how a comparison inside it is read, and how many more parameters a
+-- call may have behind its first.
 pub record Inside : Type 0 where
   pub opens : Bool
   pub read : Unread → Read
+  pub more : ℕ
 
 -- the rest of a chain: with one more item, or to its end
 abbrev pub goes_on : {S I : Type 0} → (S → Unread → Option (S × Unread)) → (S → I → S) → S → Unread → Option (I × Unread) → Option (S × Unread)
@@ -92,15 +94,15 @@ module _ (comparison : Unread → Read) where
   unfoldable pub arg_behind : Unread → Option (Option (Tree × Unread))
   arg_behind unread = next_arg (is_at 59 unread.bytes) unread
 
-  -- parameters, of which the first was read: at most thirty
-  abbrev pub more_args : Tree × Unread → Option (List Tree × Unread)
-  more_args first = chain arg_behind pushed 29 (first.0 ∷ []) first.1
+  -- parameters, of which the first was read, and at most so many more
+  abbrev pub more_args : ℕ → Tree × Unread → Option (List Tree × Unread)
+  more_args more first = chain arg_behind pushed more (first.0 ∷ []) first.1
 
 module _ (nested : Inside) where
   -- parameters, by whether the parenthesis closes at once
   abbrev pub args_by : Bool → Unread → Option (List Tree × Unread)
   args_by true unread = Some ([], unread)
-  args_by false unread = nested.read unread >>= more_args nested.read
+  args_by false unread = nested.read unread >>= more_args nested.read nested.more
 
   -- the parameters behind a call's parenthesis
   unfoldable pub args_at : Unread → Option (List Tree × Unread)
@@ -184,10 +186,10 @@ module _ (nested : Inside) where
   row_at (suc row) unread = row_at row unread >>= tails_behind (row_at row) (suc row)
 
 -- a comparison with so many levels of parentheses, its own included
-unfoldable pub comparison_at : ℕ → Unread → Read
-comparison_at zero unread = None
-comparison_at (suc levels) unread = row_at (record { opens = nat_lt 0 levels; read = comparison_at levels }) 6 unread
+unfoldable pub comparison_at : ℕ → ℕ → Unread → Read
+comparison_at more zero unread = None
+comparison_at more (suc levels) unread = row_at (record { opens = nat_lt 0 levels; read = comparison_at more levels; more = more }) 6 unread
 
 -- what may stand inside parentheses, where so many levels are left
-abbrev pub nested_at : ℕ → Inside
-nested_at levels = record { opens = nat_lt 0 levels; read = comparison_at levels }
+abbrev pub nested_at : ℕ → ℕ → Inside
+nested_at more levels = record { opens = nat_lt 0 levels; read = comparison_at more levels; more = more }

@@ -1,8 +1,7 @@
 ghost use Rattle.calc_model.specs.Contents.{is_error_constant};
-ghost use Rattle.calc_model.specs.Fields.{error_of};
+ghost use Rattle.calc_model.specs.Field.{constant_of, error_of};
 ghost use Rattle.calc_model.specs.declared.content.Content.TheVariants as contents;
 ghost use Rattle.calc_num.specs.Spelling.{reading};
-ghost use Rattle.formula_reader.specs.Fields.{constant_of};
 ghost use Rattle.std.specs.Prelude.{IfOk, IfSome, true, ◌≡◌};
 ghost use Rattle.std.specs.Str.{IsUtf8};
 
@@ -34,7 +33,7 @@ pub(crate) fn over() -> Constant
 /// The constant that a text is: a number, an error constant, or the text itself.
 pub(crate) fn read_constant(alloc: Global, text: &[u8]) -> Result<Constant, NoMemory>
     requires { IsUtf8 text.now }
-    ensures { IfOk result (λ constant. contents.Constant constant ≡ constant_of text.now (reading text.now)) }
+    ensures { IfOk result (λ constant. contents.Constant constant ≡ constant_of (reading text.now) text.now) }
 {
     match Num::read(text) {
         Reading::Number(number) => Ok(Constant::of(Value::Number(number))),

@@ -1,7 +1,5 @@
-ghost use Rattle.calc_model.specs.Field.{IsField};
-ghost use Rattle.calc_model.specs.Fields.{begins_formula};
+ghost use Rattle.calc_model.specs.Field.{IsField, begins_formula, content_by, formula_or_raw};
 ghost use Rattle.calc_model.specs.declared.content.Content.{Content};
-ghost use Rattle.formula_reader.specs.Fields.{field_of, formula_or_raw};
 ghost use Rattle.formula_reader.specs.Reading.{formula_of};
 ghost use Rattle.std.specs.Prelude.{IfOk, ◌≡◌};
 ghost use Rattle.std.specs.Str.{IsUtf8};
@@ -9,19 +7,16 @@ ghost use Rattle.std.specs.Str.{IsUtf8};
 use crate::constant::{over, read_constant, to_text};
 use crate::formula::read_formula;
 use calc_addr::NoMemory;
-use calc_model::{Content, Formula};
+use calc_model::{Content, Formula, MOST_FIELD_BYTES};
 use std::alloc::Global;
-
-/// The most bytes that a field may have and be kept.
-const MAX_LEN: usize = 65_535;
 
 /// What a cell holds whose field is this text. It fails only where memory is refused, and takes none
 /// but for texts and formulas. Linear in the text.
 pub fn read_field(alloc: Global, field: &[u8]) -> Result<Content, NoMemory>
     requires { IsUtf8 field.now }
-    ensures value { IfOk result (λ content. content ≡ field_of field.now) }
     ensures spelled { IfOk result (λ content. IsField field.now content) }
-    ensures only { (content : Content) → IsField field.now content → IfOk result (λ read. read ≡ content) }
+    ensures only { (content : Content) → IsField field.now content
+        → IfOk result (λ read. read ≡ content) }
 {
     read_content(alloc, field)
 }
@@ -29,11 +24,11 @@ pub fn read_field(alloc: Global, field: &[u8]) -> Result<Content, NoMemory>
 /// What a cell holds, by the first case that holds of its field.
 fn read_content(alloc: Global, field: &[u8]) -> Result<Content, NoMemory>
     requires { IsUtf8 field.now }
-    ensures { IfOk result (λ content. content ≡ field_of field.now) }
+    ensures { IfOk result (λ content. content ≡ content_by (formula_of field.now) field.now) }
 {
     if field.is_empty() {
         Ok(Content::Empty)
-    } else if field.len() > MAX_LEN {
+    } else if field.len() > MOST_FIELD_BYTES {
         Ok(Content::Constant(over()))
     } else if begins_formula(field) {
         read_begun(alloc, field)
@@ -52,7 +47,7 @@ fn begins_formula(text: &[u8]) -> bool
 /// What a cell holds whose field begins as a formula does.
 fn read_begun(alloc: Global, text: &[u8]) -> Result<Content, NoMemory>
     requires { IsUtf8 text.now }
-    ensures { IfOk result (λ content. content ≡ formula_or_raw text.now (formula_of text.now)) }
+    ensures { IfOk result (λ content. content ≡ formula_or_raw (formula_of text.now) text.now) }
 {
     match read_formula(alloc, text)? {
         Some(tree) => Ok(Content::Formula(Formula::of(tree))),

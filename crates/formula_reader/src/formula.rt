@@ -1,19 +1,12 @@
 ghost use Rattle.formula_reader.specs.Unread.{Gives, is_at};
-ghost use Rattle.formula_reader.specs.Reading.{behind_equals, behind_front, comparison_of, formula_of};
+ghost use Rattle.formula_reader.specs.Reading.{behind_equals, behind_front, comparison_within, formula_of};
 ghost use Rattle.std.specs.Prelude.{IfOk, option_map, ◌≡◌};
 
 use crate::cursor::{Cursor, Stop, is_at, skip};
 use crate::rows::comparison;
 use calc_addr::NoMemory;
-use calc_model::Tree;
+use calc_model::{MOST_FORMULA_BYTES, MOST_OPEN, MOST_TOKENS, Tree};
 use std::alloc::{AllocError, Global};
-
-/// The most bytes of a field that is read as a formula.
-const MAX_LEN: usize = 8_192;
-/// The most tokens of a formula behind its front.
-const MAX_TOKENS: usize = 1_024;
-/// The most parentheses that are open at one point, and the formula itself.
-const MAX_LEVELS: u8 = 65;
 
 /// The formula that a text spells, if it spells one: the front `=`, `==`, `of:=` or `of:==`, and a
 /// comparison after OpenFormula's expression syntax. All infix operators associate to the left, prefix
@@ -25,7 +18,7 @@ const MAX_LEVELS: u8 = 65;
 pub(crate) fn read_formula(alloc: Global, text: &[u8]) -> Result<Option<Tree>, NoMemory>
     ensures { IfOk result (λ tree. tree ≡ formula_of text.now) }
 {
-    if text.len() > MAX_LEN {
+    if text.len() > MOST_FORMULA_BYTES {
         return Ok(None);
     }
     match behind_front(text) {
@@ -40,13 +33,13 @@ pub(crate) fn read_formula(alloc: Global, text: &[u8]) -> Result<Option<Tree>, N
 
 /// A comparison that is all of these bytes.
 fn read_comparison(alloc: Global, bytes: &[u8]) -> Result<Tree, Stop>
-    ensures { Gives (λ tree. tree) result (comparison_of bytes.now) }
+    ensures { Gives (λ tree. tree) result (comparison_within 29 65 1024 bytes.now) }
 {
     let cursor = Cursor {
         bytes: skip(bytes),
-        tokens: MAX_TOKENS,
+        tokens: MOST_TOKENS,
     };
-    let (tree, rest) = comparison(alloc, MAX_LEVELS, cursor)?;
+    let (tree, rest) = comparison(alloc, MOST_OPEN + 1, cursor)?;
     if rest.bytes.is_empty() {
         Ok(tree)
     } else {

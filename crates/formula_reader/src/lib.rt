@@ -14,4 +14,4 @@ mod tokens;
 mod words;
 
 pub use field::read_field;
-pub use laws::{fields_are_spelled, formulas_are_spelled};
+pub use laws::{a_text_spells_one_tree, fields_have_one_meaning};

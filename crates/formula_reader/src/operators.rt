@@ -1,4 +1,4 @@
-ghost use Rattle.calc_model.specs.Grammar.{op_row};
+ghost use Rattle.calc_model.specs.Grammar.{op_level};
 ghost use Rattle.formula_reader.specs.Operators.{attach, greater_at, less_at, of_row, operator_at, row_of, single_operator};
 ghost use Rattle.std.specs.Prelude.{IfOk, option_map, ◌≡◌};
 
@@ -82,7 +82,7 @@ fn single_operator(byte: u8) -> Option<Operator>
     }
 }
 
-/// The row of an operator: the lower, the tighter it binds.
+/// The row of an operator: the looser, the tighter it binds.
 fn row_of(operator: Operator) -> u8
     ensures { result ≡ row_of operator }
 {
@@ -93,7 +93,7 @@ fn row_of(operator: Operator) -> u8
 }
 
 fn infix_row(op: Op) -> u8
-    ensures { result ≡ op_row op }
+    ensures { result ≡ op_level op }
 {
     match op {
         Op::Pow => 2,

@@ -7,14 +7,12 @@ use crate::operators::{Operator, Tail, attach, operator_of_row};
 use crate::signs::{count_signs, signed, split_signs};
 use crate::tokens::operand;
 use crate::words::{capitals, name, split_word};
-use calc_model::{Tree, begins_identifier, is_identifier};
+use calc_model::{MOST_PARAMETERS, Tree, begins_identifier, is_identifier};
 use sqlite_items::{Boxed, Items};
 use std::alloc::Global;
 
 /// The row of comparisons, which bind the least.
 const COMPARISON: u8 = 6;
-/// The most parameters of a call behind its first.
-const MORE_PARAMETERS: usize = 29;
 
 /// A comparison with so many levels of parentheses, its own included. Linear in what is read; the
 /// stack grows with the levels alone.
@@ -25,7 +23,7 @@ pub(crate) fn comparison(
     levels: u8,
     cursor: Cursor<'_>,
 ) -> Result<(Tree, Cursor<'_>), Stop>
-    ensures { Gives tree_left result (comparison_at levels (unread_of cursor.entry)) }
+    ensures { Gives tree_left result (comparison_at 29 levels (unread_of cursor.entry)) }
 {
     if levels == 0 {
         return Err(Stop::Unspelled);
@@ -42,7 +40,7 @@ fn operands(
     row: u8,
     cursor: Cursor<'_>,
 ) -> Result<(Tree, Cursor<'_>), Stop>
-    ensures { Gives tree_left result (row_at (nested_at levels) row (unread_of cursor.entry)) }
+    ensures { Gives tree_left result (row_at (nested_at 29 levels) row (unread_of cursor.entry)) }
 {
     if row == 0 {
         return prefixed(alloc, levels, cursor);
@@ -70,7 +68,7 @@ fn tail(
     cursor: Cursor<'_>,
 ) -> Result<Option<(Tail, Cursor<'_>)>, Stop>
     requires { 0 < row }
-    ensures { Gives tail_left result (tail_at (row_at (nested_at levels) (row - 1)) row (unread_of cursor.entry)) }
+    ensures { Gives tail_left result (tail_at (row_at (nested_at 29 levels) (row - 1)) row (unread_of cursor.entry)) }
 {
     match operator_of_row(row, cursor.bytes) {
         None => Ok(None),
@@ -92,7 +90,7 @@ fn tail(
 #[cycle(reading)]
 #[tactic(auto, unfolding(crate::specs::Rows::prefixed_at))]
 fn prefixed(alloc: Global, levels: u8, cursor: Cursor<'_>) -> Result<(Tree, Cursor<'_>), Stop>
-    ensures { Gives tree_left result (prefixed_at (nested_at levels) (unread_of cursor.entry)) }
+    ensures { Gives tree_left result (prefixed_at (nested_at 29 levels) (unread_of cursor.entry)) }
 {
     let (front, bytes) = split_signs(cursor.bytes);
     let signs = count_signs(front);
@@ -125,7 +123,7 @@ fn start_of(bytes: &[u8]) -> Start
 #[cycle(reading)]
 #[tactic(auto, unfolding(crate::specs::Rows::primary_at))]
 fn primary(alloc: Global, levels: u8, cursor: Cursor<'_>) -> Result<(Tree, Cursor<'_>), Stop>
-    ensures { Gives tree_left result (primary_at (nested_at levels) (unread_of cursor.entry)) }
+    ensures { Gives tree_left result (primary_at (nested_at 29 levels) (unread_of cursor.entry)) }
 {
     match start_of(cursor.bytes) {
         Start::Parenthesis => {
@@ -145,7 +143,7 @@ fn primary(alloc: Global, levels: u8, cursor: Cursor<'_>) -> Result<(Tree, Curso
 #[cycle(reading)]
 #[tactic(auto, unfolding(crate::specs::Rows::word_behind))]
 fn word(alloc: Global, levels: u8, cursor: Cursor<'_>) -> Result<(Tree, Cursor<'_>), Stop>
-    ensures { Gives tree_left result (word_at (nested_at levels) (unread_of cursor.entry)) }
+    ensures { Gives tree_left result (word_at (nested_at 29 levels) (unread_of cursor.entry)) }
 {
     let (word, rest) = split_word(cursor.bytes);
     let behind = past(cursor.tokens, rest)?;
@@ -169,7 +167,7 @@ fn arguments(
     levels: u8,
     cursor: Cursor<'_>,
 ) -> Result<(Items<Tree>, Cursor<'_>), Stop>
-    ensures { Gives trees_left result (args_at (nested_at levels) (unread_of cursor.entry)) }
+    ensures { Gives trees_left result (args_at (nested_at 29 levels) (unread_of cursor.entry)) }
 {
     let mut args = Items::new(alloc);
     if is_at(b')', cursor.bytes) {
@@ -177,7 +175,7 @@ fn arguments(
     }
     let (first, mut rest) = comparison(alloc, levels, cursor)?;
     args.push(first)?;
-    for _ in 0..MORE_PARAMETERS {
+    for _ in 1..MOST_PARAMETERS {
         if !is_at(b';', rest.bytes) {
             return Ok((args, rest));
         }

@@ -1,4 +1,4 @@
-ghost use Rattle.calc_model.specs.Fields.{error_constants};
+ghost use Rattle.calc_model.specs.Field.{error_constants};
 ghost use Rattle.calc_model.specs.ValueTexts.{fault_text};
 ghost use Rattle.formula_reader.specs.Leaves.{error_at, is_closing, number_at, operand_at, reference_at, string_at, unquoted};
 ghost use Rattle.formula_reader.specs.Unread.{Gives, bytes_behind, tree_behind};

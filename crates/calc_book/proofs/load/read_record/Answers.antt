@@ -1,5 +1,6 @@
-use Rattle.std.proofs.Common.{◌≡◌, ◌∷◌, ◌==◌, true, length, sym, ap, ◌∙◌, arith}
+use Rattle.std.proofs.Common.{◌≡◌, ◌∷◌, ◌≤◌, ◌+◌, ◌==◌, true, length, sym, ap, ◌∙◌, arith}
 use Rattle.std.specs.List.{list_all}
+use Rattle.formula_reader.specs.Fields.{field_of}
 use Rattle.calc_book.specs.BookForm.{fields_in, is_plain_byte, with_fields}
 use Rattle.calc_book.proofs.Parts.{first_of, fields_pass, few_fields, plain_utf8}
 use Rattle.calc_book.proofs.load.read_record.Goals as goal
@@ -9,9 +10,11 @@ loop-field-init c =
     let text = c.args.text.now in
     let items : c.into_iter-field-iterator.result ≡ fields_in text = c.into_iter-field-iterator.ensures.into_iter_gives ∙ c.fields_of-field-items.ensures in
     record {
-      cells = ap (with_fields c.args.row 1 c.args.cells.now.entries) items;
+      cells = ap (with_fields field_of c.args.row 1 c.args.book.now.cells) items;
+      names = refl;
       from = omega arith;
       room = omega (arith, ap length items, few_fields text c.requires.form);
+      fits = omega (arith, ap length items);
       plain = ap (list_all (list_all is_plain_byte)) items ∙ fields_pass is_plain_byte (λ byte. byte == 44) text c.requires.bytes;
     }
 

@@ -9,4 +9,5 @@ of-requires c =
     let text = c.args.text.now in
     let tree = c.in-Some.tree in
     let read : formula_of text ≡ Some tree = sym c.in_ok-tree.ensures ∙ c.in-Some.is in
-    spelled_formed text tree (formula_spelled text tree read)
+    let spelled = formula_spelled text tree read in
+    spelled_formed text tree spelled.0 spelled.1

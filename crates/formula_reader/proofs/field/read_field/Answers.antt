@@ -1,4 +1,4 @@
-use Rattle.formula_reader.proofs.FieldsRead.{read_only, read_spelled}
+use Rattle.formula_reader.proofs.Meaning.{read_only, read_spelled}
 use Rattle.formula_reader.proofs.field.read_field.Goals as goal
 
 pub returns : goal.returns
@@ -6,7 +6,6 @@ returns c =
     let field = c.args.field.now in
     let read = c.read_content.ensures in
     record {
-      value = read;
       spelled = read_spelled c.read_content.result field read;
       only = λ content is. read_only c.read_content.result field content is read;
     }

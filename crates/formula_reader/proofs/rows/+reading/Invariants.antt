@@ -28,10 +28,10 @@ decreases-arguments l = 1024 * l.levels + 2
 
 abbrev pub invariant-operands-loop : goal.invariant-operands-loop
 invariant-operands-loop l =
-    chain (tail_at (row_at (nested_at l.levels) (l.row - 1)) l.row) attach (l.initial.rest.tokens - l.counter) l.tree (unread_of l.rest)
-    ≡ row_at (nested_at l.levels) l.row (unread_of l.fn.cursor)
+    chain (tail_at (row_at (nested_at 29 l.levels) (l.row - 1)) l.row) attach (l.initial.rest.tokens - l.counter) l.tree (unread_of l.rest)
+    ≡ row_at (nested_at 29 l.levels) l.row (unread_of l.fn.cursor)
 
 abbrev pub invariant-arguments-loop : goal.invariant-arguments-loop
 invariant-arguments-loop l =
-    chain (arg_behind (comparison_at l.levels)) pushed (29 - l.counter) l.args (unread_of l.rest)
-    ≡ args_at (nested_at l.levels) (unread_of l.fn.cursor)
+    chain (arg_behind (comparison_at 29 l.levels)) pushed (30 - l.counter) l.args (unread_of l.rest)
+    ≡ args_at (nested_at 29 l.levels) (unread_of l.fn.cursor)

@@ -1,0 +1,137 @@
+//! What lines of a script do to a workbook, and what they write.
+ghost use Rattle.std.specs.Prelude.{◌≡◌, IfOk, false, true};
+ghost use Rattle.calc_model.specs.Step.{step};
+ghost use Rattle.calc_cli.specs.Output.{accepted, answer, done, edited, recalculated, recalculation, refusal_text};
+ghost use Rattle.calc_cli.specs.Records.{held_texts, printed_area, shown_texts};
+ghost use Rattle.calc_cli.specs.Sessions.{Replies, session_of};
+ghost use Rattle.calc_model.specs.Val.{val};
+
+use crate::cell_texts::{Held, Shown};
+use crate::records::print_area;
+use calc_addr::{Area, NoMemory};
+use calc_model::Edit;
+use calc_script::{Cause, Command, Line};
+use itoa::Buffer;
+use plain_workbook::{EditFault, PlainWorkbook};
+use std::alloc::{AllocError, Global};
+
+/// What a line writes, and whether it is refused.
+#[derive(Drop)]
+pub(crate) struct Reply {
+    pub(crate) text: Vec<u8>,
+    pub(crate) refused: bool,
+}
+
+/// Does what a line says.
+#[tactic(auto, unfolding(crate::specs::Output::answer))]
+pub(crate) fn answer_line(
+    alloc: Global,
+    workbook: &mut PlainWorkbook,
+    number: usize,
+    line: &Line,
+) -> Result<Reply, NoMemory>
+    ensures { Replies result (session_of workbook.new)
+        (answer (session_of workbook.old) number line.now) }
+{
+    match line {
+        Line::Nothing => Ok(accept(Vec::new(alloc))),
+        Line::Do(command) => do_command(alloc, workbook, number, command),
+        Line::Refused(cause) => refuse(alloc, number, *cause),
+    }
+}
+
+fn do_command(
+    alloc: Global,
+    workbook: &mut PlainWorkbook,
+    number: usize,
+    command: &Command,
+) -> Result<Reply, NoMemory>
+    ensures { Replies result (session_of workbook.new)
+        (done (session_of workbook.old) number command.now) }
+{
+    match command {
+        Command::Edit(edit) => make_edit(alloc, workbook, number, edit),
+        Command::Calc => recalculate(alloc, workbook),
+        Command::Print(area) => print_shown(alloc, workbook, *area),
+        Command::Formulas(area) => print_held(alloc, workbook, *area),
+    }
+}
+
+fn make_edit(
+    alloc: Global,
+    workbook: &mut PlainWorkbook,
+    number: usize,
+    edit: &Edit,
+) -> Result<Reply, NoMemory>
+    ensures { Replies result (session_of workbook.new) (edited (session_of workbook.old) number
+        edit.now (step (session_of workbook.old).book edit.now)) }
+{
+    match workbook.edit(alloc, edit) {
+        Ok(()) => Ok(accept(Vec::new(alloc))),
+        Err(EditFault::Refused(cause)) => refuse(alloc, number, Cause::Edit(cause)),
+        Err(EditFault::NoMemory) => Err(AllocError),
+    }
+}
+
+fn recalculate(alloc: Global, workbook: &mut PlainWorkbook) -> Result<Reply, NoMemory>
+    ensures { Replies result (session_of workbook.new) (accepted
+        (recalculated (session_of workbook.old)) (recalculation (session_of workbook.old))) }
+{
+    let count = workbook.stale_count(alloc)?;
+    let _results = workbook.recalculate(alloc)?;
+    let mut text = Vec::new(alloc);
+    text.extend_from_slice(b"recalculated ")?;
+    text.extend_from_slice(Buffer::new().format(count).as_bytes())?;
+    text.push(b'\n')?;
+    Ok(accept(text))
+}
+
+fn print_shown(alloc: Global, workbook: &mut PlainWorkbook, area: Area) -> Result<Reply, NoMemory>
+    ensures { Replies result (session_of workbook.new) (accepted
+        (recalculated (session_of workbook.old))
+        (printed_area (shown_texts (val (session_of workbook.old).book)) area)) }
+{
+    let results = workbook.recalculate(alloc)?;
+    let shown = Shown {
+        book: workbook.book(),
+        results: &results,
+    };
+    Ok(accept(print_area(alloc, &shown, area)?))
+}
+
+fn print_held(alloc: Global, workbook: &PlainWorkbook, area: Area) -> Result<Reply, NoMemory>
+    ensures { Replies result (session_of workbook.now) (accepted (session_of workbook.now)
+        (printed_area (held_texts (session_of workbook.now).book) area)) }
+{
+    let held = Held {
+        book: workbook.book(),
+    };
+    Ok(accept(print_area(alloc, &held, area)?))
+}
+
+fn accept(text: Vec<u8>) -> Reply
+    ensures text { result.text.items ≡ text.items }
+    ensures refused { result.refused ≡ false }
+{
+    Reply {
+        text,
+        refused: false,
+    }
+}
+
+/// What a refused line writes.
+fn refuse(alloc: Global, number: usize, cause: Cause) -> Result<Reply, NoMemory>
+    ensures text { IfOk result (λ reply. reply.text.items ≡ refusal_text number cause) }
+    ensures refused { IfOk result (λ reply. reply.refused ≡ true) }
+{
+    let mut text = Vec::new(alloc);
+    text.extend_from_slice(b"line ")?;
+    text.extend_from_slice(Buffer::new().format(number).as_bytes())?;
+    text.extend_from_slice(b" refused: ")?;
+    text.extend_from_slice(cause.word().as_bytes())?;
+    text.push(b'\n')?;
+    Ok(Reply {
+        text,
+        refused: true,
+    })
+}

@@ -1,6 +1,0 @@
--- A text begins with its first line.
-use Rattle.calc_script.proofs.Cutting.{cut_line}
-use Rattle.calc_script.proofs.cut.cut_line.Goals as goal
-
-pub returns : goal.returns
-returns c = rw (c.cut.ensures.before, c.cut.ensures.after) (cut_line c.args.text.now c.requires)

@@ -1,0 +1,6 @@
+-- looking up
+pub mod Lookups
+-- how many cells a map has after a change
+pub mod Lengths
+-- a map stays a book
+pub mod Kept

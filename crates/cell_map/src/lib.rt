@@ -1,0 +1,12 @@
+//! A book's cells and the results of its formulas as sorted maps, and what each cell shows by them.
+//!
+//! A look-up or a change of one cell takes time that grows with the logarithm of the map.
+#![tactic(auto)]
+
+mod cells;
+mod results;
+mod show;
+
+pub use cells::CellMap;
+pub use results::ResultMap;
+pub use show::shown;
