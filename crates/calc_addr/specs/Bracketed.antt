@@ -4,6 +4,7 @@
 use Rattle.std.specs.Prelude.{ℕ, Bool, false, ◌-◌, ◌&&◌, ◌==◌, nat_le, if◌then◌else◌, List, [], ◌∷◌, ◌++◌, length, take, drop, slice_index, codes, decimal, Option, Some, None, option_map, option_and_then}
 use Rattle.std.specs.List.{list_any, before_first, after_first}
 use Rattle.std.specs.Option.{option_or}
+use Rattle.calc_addr.specs.declared.cell.TheConstants.{LAST_COL, LAST_ROW}
 use Rattle.calc_addr.specs.Addresses.{sheet_word}
 use Rattle.calc_addr.specs.Ends.{in_order, whole, reference_of, cols_of, rows_of}
 use Rattle.calc_addr.specs.Letters.{column_letters}
@@ -74,11 +75,11 @@ two_cells sheet first last =
 
 abbrev pub two_columns : Option ℕ → List ℕ → List ℕ → Option Reference
 two_columns sheet first last =
-    together (λ a b. reference_of sheet span.Columns (in_order a b) (whole 1048576)) (column_end first) (column_end last)
+    together (λ a b. reference_of sheet span.Columns (in_order a b) (whole LAST_ROW)) (column_end first) (column_end last)
 
 abbrev pub two_rows : Option ℕ → List ℕ → List ℕ → Option Reference
 two_rows sheet first last =
-    together (λ a b. reference_of sheet span.Rows (whole 1024) (in_order a b)) (row_end first) (row_end last)
+    together (λ a b. reference_of sheet span.Rows (whole LAST_COL) (in_order a b)) (row_end first) (row_end last)
 
 abbrev pub two_ends : Option ℕ → List ℕ → List ℕ → Option Reference
 two_ends sheet first last =

@@ -3,7 +3,7 @@ ghost use Rattle.calc_addr.specs.Ends.{AreEnds, reference_of};
 ghost use Rattle.calc_addr.specs.References.{IsSpanned};
 ghost use Rattle.std.specs.Prelude.{IfSome, option_map, ℕ, ◌≡◌, ◌≤◌};
 
-use crate::cell::{Area, LAST_COL, LAST_ROW};
+use crate::cell::{Area, LAST_COL, LAST_ROW, LAST_SHEET};
 use crate::ends::{End, Ends, in_order};
 use crate::pieces::{cell_parts, cut, read_column, read_row_number, read_sheet, undollared};
 use crate::read::Spelled;
@@ -12,7 +12,7 @@ use crate::reference::{Marks, Ref, Span};
 /// The sheet that stands before the point, if one is written.
 fn read_written_sheet(text: &[u8]) -> Option<Option<u8>>
     ensures sheet { result ≡ written_sheet text.now }
-    ensures inside { (n : ℕ) → result ≡ Some (Some n) → n ≤ 15 }
+    ensures inside { (n : ℕ) → result ≡ Some (Some n) → n ≤ LAST_SHEET }
 {
     if text.is_empty() {
         return Some(None);
@@ -83,7 +83,7 @@ fn read_corner(text: &[u8]) -> Option<(End, End)>
 }
 
 fn reference(sheet: Option<u8>, span: Span, cols: Ends, rows: Ends) -> Ref
-    requires sheet { (n : ℕ) → sheet ≡ Some n → n ≤ 15 }
+    requires sheet { (n : ℕ) → sheet ≡ Some n → n ≤ LAST_SHEET }
     requires cols { AreEnds LAST_COL cols }
     requires rows { AreEnds LAST_ROW rows }
     requires span { IsSpanned span (reference_of sheet span cols rows).area (reference_of sheet span cols rows).marks }
@@ -109,7 +109,7 @@ fn reference(sheet: Option<u8>, span: Span, cols: Ends, rows: Ends) -> Ref
 }
 
 fn one_cell(sheet: Option<u8>, text: &[u8]) -> Option<Ref>
-    requires { (n : ℕ) → sheet ≡ Some n → n ≤ 15 }
+    requires { (n : ℕ) → sheet ≡ Some n → n ≤ LAST_SHEET }
     ensures { result ≡ one_cell sheet text.now }
 {
     let (col, row) = read_corner(text)?;
@@ -117,7 +117,7 @@ fn one_cell(sheet: Option<u8>, text: &[u8]) -> Option<Ref>
 }
 
 fn two_cells(sheet: Option<u8>, first: &[u8], last: &[u8]) -> Option<Ref>
-    requires { (n : ℕ) → sheet ≡ Some n → n ≤ 15 }
+    requires { (n : ℕ) → sheet ≡ Some n → n ≤ LAST_SHEET }
     ensures { result ≡ two_cells sheet first.now last.now }
 {
     let (first_col, first_row) = read_corner(first)?;
@@ -128,7 +128,7 @@ fn two_cells(sheet: Option<u8>, first: &[u8], last: &[u8]) -> Option<Ref>
 }
 
 fn two_columns(sheet: Option<u8>, first: &[u8], last: &[u8]) -> Option<Ref>
-    requires { (n : ℕ) → sheet ≡ Some n → n ≤ 15 }
+    requires { (n : ℕ) → sheet ≡ Some n → n ≤ LAST_SHEET }
     ensures { result ≡ two_columns sheet first.now last.now }
 {
     let cols = in_order(read_column_end(first)?, read_column_end(last)?);
@@ -136,7 +136,7 @@ fn two_columns(sheet: Option<u8>, first: &[u8], last: &[u8]) -> Option<Ref>
 }
 
 fn two_rows(sheet: Option<u8>, first: &[u8], last: &[u8]) -> Option<Ref>
-    requires { (n : ℕ) → sheet ≡ Some n → n ≤ 15 }
+    requires { (n : ℕ) → sheet ≡ Some n → n ≤ LAST_SHEET }
     ensures { result ≡ two_rows sheet first.now last.now }
 {
     let rows = in_order(read_row_end(first)?, read_row_end(last)?);
@@ -144,7 +144,7 @@ fn two_rows(sheet: Option<u8>, first: &[u8], last: &[u8]) -> Option<Ref>
 }
 
 fn two_ends(sheet: Option<u8>, first: &[u8], last: &[u8]) -> Option<Ref>
-    requires { (n : ℕ) → sheet ≡ Some n → n ≤ 15 }
+    requires { (n : ℕ) → sheet ≡ Some n → n ≤ LAST_SHEET }
     ensures { result ≡ two_ends sheet first.now last.now }
 {
     two_cells(sheet, first, last)
@@ -153,7 +153,7 @@ fn two_ends(sheet: Option<u8>, first: &[u8], last: &[u8]) -> Option<Ref>
 }
 
 fn read_span(sheet: Option<u8>, text: &[u8]) -> Option<Ref>
-    requires { (n : ℕ) → sheet ≡ Some n → n ≤ 15 }
+    requires { (n : ℕ) → sheet ≡ Some n → n ≤ LAST_SHEET }
     ensures { result ≡ spelled_span sheet text.now }
 {
     match cut(text, b':') {
