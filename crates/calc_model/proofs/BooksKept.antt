@@ -128,8 +128,8 @@ length-remove test (e ∷ es) =
     ]
 
 -- one content more is one entry more at most
-pub length-with_content : (es : Entries) (cell : Place) (content : Content) → length (with_content es cell content) ≤ length es + 1
-length-with_content es cell content =
+pub longer_by_one : (es : Entries) (cell : Place) (content : Content) → length (with_content es cell content) ≤ length es + 1
+longer_by_one es cell content =
     elim (is_held content) as (λ b. length (cond b (insert_entry place_cmp es cell content) (remove_entry (is_at (place_cmp cell)) es)) ≤ length es + 1) [
       | true ↦ length-insert cell content es
       | false ↦ omega (arith, length-remove (is_at (place_cmp cell)) es)
