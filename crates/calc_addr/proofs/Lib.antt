@@ -1,6 +1,4 @@
-pub mod AsciiTexts
 pub mod Columns
-pub mod Cuts
 pub mod Digits
 pub mod EndsInOrder
 pub mod Joined

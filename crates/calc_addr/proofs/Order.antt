@@ -13,25 +13,6 @@ place_cmp_total =
 tie : (m n : ℕ) → nat_cmp m n ≡ Equal → m ≡ n
 tie m n e = grind (arith, nat_tests)
 
-first_ties : (o r : Ordering) → ordering_then o r ≡ Equal → o ≡ Equal
-first_ties Less r e = e
-first_ties Equal r e = refl
-first_ties Greater r e = e
-
-rest_ties : (o r : Ordering) → ordering_then o r ≡ Equal → r ≡ Equal
-rest_ties Less r e = cc
-rest_ties Equal r e = e
-rest_ties Greater r e = cc
-
--- only equal cells tie
-pub place_cmp_ties : (p q : Place) → place_cmp p q ≡ Equal → p ≡ q
-place_cmp_ties p q e =
-    let sheets = tie p.sheet q.sheet (first_ties _ _ e) in
-    let in_sheet = rest_ties (nat_cmp p.sheet q.sheet) _ e in
-    let cols = tie p.col q.col (first_ties _ _ in_sheet) in
-    let rows = tie p.row q.row (rest_ties (nat_cmp p.col q.col) _ in_sheet) in
-    λ i. record { sheet = sheets i; col = cols i; row = rows i }
-
 -- in one column the lower row comes later
 pub before_in_column : (sheet col row later : ℕ) → row < later → IsBefore (record { sheet = sheet; col = col; row = row }) (record { sheet = sheet; col = col; row = later })
 before_in_column sheet col row later h = grind (arith, nat_tests)

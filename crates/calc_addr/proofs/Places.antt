@@ -124,12 +124,6 @@ length-places a =
     (λ col. length-map (range_with_len a.first_row rows) (place_at a.sheet col) ∙ length-range_with_len a.first_row rows)
     ∙ ap (λ n. n * rows) (length-range_with_len a.first_col (a.last_col + 1 - a.first_col))
 
--- one cell is its own rectangle
-pub places-single : (p : Place) → places (single p) ≡ p ∷ []
-places-single p =
-    let one : (n : ℕ) → n + 1 - n ≡ 1 = λ n. omega arith in
-    rw (one p.col, one p.row) refl
-
 -- each cell of the list comes before all those after it
 abbrev pub Rises : List Place → Type 0
 Rises [] = Unit {0}

@@ -4,7 +4,7 @@ use Rattle.std.specs.Prelude.{option_map, unwrap_or, is_some, length, ◌==◌}
 use Rattle.std.specs.List.{list_any, before_first, after_first}
 use Rattle.std.specs.Option.{option_and_then, option_or}
 use Rattle.std.proofs.lemmas.Bool.{cases_lt}
-use Rattle.calc_addr.specs.Bracketed.{after_point, column_end, corner_ends, end_of, inside, one_cell, row_end, spelled_reference, spelled_span, two_cells, two_columns, two_ends, two_rows, unquoted, written_sheet}
+use Rattle.calc_addr.specs.Bracketed.{after_point, column_end, corner_ends, end_of, inside, one_cell, row_end, spelled_reference, spelled_span, two_cells, two_columns, two_ends, two_rows, bare_name, written_sheet}
 use Rattle.calc_addr.specs.Ends.{AreEnds, in_order, whole, reference_of}
 use Rattle.calc_addr.specs.References.{Reference, IsSpanned, IsValidReference}
 use Rattle.calc_addr.specs.Spelling.{column_part, is_colon, is_point, row_part, sheet_of, undollared}
@@ -20,12 +20,12 @@ use Rattle.calc_addr.proofs.MoveLaws.{pair_of}
 use Rattle.calc_addr.proofs.SpelledInside.{LiesUpTo, column_of-inside, row_of-inside}
 
 -- an end that is spelled lies inside
-inside_is : (x : Spelled ℕ) (n : ℕ) → inside x ≡ Some n → x ≡ Is n
+pub inside_is : (x : Spelled ℕ) (n : ℕ) → inside x ≡ Some n → x ≡ Is n
 inside_is (Is m) n e = cc
 inside_is Outside n e = cc
 inside_is Not n e = cc
 
-end_is : (text : List ℕ) (o : Option ℕ) (e : End) → end_of text o ≡ Some e → o ≡ Some e.at
+pub end_is : (text : List ℕ) (o : Option ℕ) (e : End) → end_of text o ≡ Some e → o ≡ Some e.at
 end_is text None e h = cc
 end_is text (Some n) e h =
     let there : ◌≡◌ {A = Option ℕ} (option_map (λ (x : End). x.at) (end_of text (Some n))) (Some e.at) = ap (option_map (λ (x : End). x.at)) h in
@@ -156,7 +156,7 @@ spelled_span-valid sheet text r here e =
 
 written_sheet-inside : (text : List ℕ) (sheet : Option ℕ) → written_sheet text ≡ Some sheet → IsSheet sheet
 written_sheet-inside text sheet e =
-    let word = unquoted (undollared text) in
+    let word = bare_name (undollared text) in
     either IsSheet (length text == 0) (Some None) (option_map (λ n. Some n) (inside (sheet_of word))) sheet
     (λ h n k. cc)
     (mapped IsSheet (λ (n : ℕ). Some n) (inside (sheet_of word)) sheet

@@ -47,16 +47,17 @@ row_end text = end_of text (inside (row_of (undollared text)))
 abbrev pub corner_ends : List ℕ → Option (End × End)
 corner_ends text = together (λ col row. (col, row)) (column_end (column_part text)) (row_end (row_part text))
 
--- the sheet before the point: its word, which a dollar sign and quotes may go with, or none
-abbrev pub unquoted : List ℕ → List ℕ
-unquoted text =
+-- a sheet's name without the quotes round it
+abbrev pub bare_name : List ℕ → List ℕ
+bare_name text =
     if (slice_index text 0 == 39) && (slice_index text (length text - 1) == 39) && nat_le 2 (length text)
     then take (length text - 2) (drop 1 text) else text
 
+-- the sheet before the point: its name, which a dollar sign and quotes may go with, or none
 abbrev pub written_sheet : List ℕ → Option (Option ℕ)
 written_sheet text =
     if length text == 0 then Some None
-    else option_map (λ sheet. Some sheet) (inside (sheet_of (unquoted (undollared text))))
+    else option_map (λ sheet. Some sheet) (inside (sheet_of (bare_name (undollared text))))
 
 -- what follows a point in front
 abbrev pub after_point : List ℕ → Option (List ℕ)

@@ -1,11 +1,13 @@
-ghost use Rattle.calc_addr.specs.Bracketed.{after_point, column_end, corner_ends, is_marked, one_cell, row_end, spelled_reference, spelled_span, two_cells, two_columns, two_ends, two_rows, unquoted, written_sheet};
+ghost use Rattle.calc_addr.specs.Bracketed.{after_point, column_end, corner_ends, is_marked, one_cell, row_end, spelled_reference, spelled_span, two_cells, two_columns, two_ends, two_rows, bare_name, written_sheet};
 ghost use Rattle.calc_addr.specs.Ends.{AreEnds, reference_of};
 ghost use Rattle.calc_addr.specs.References.{IsSpanned};
 ghost use Rattle.std.specs.Prelude.{IfSome, option_map, ℕ, ◌≡◌, ◌≤◌};
 
+use byte_cuts::split_once;
+
 use crate::cell::{Area, LAST_COL, LAST_ROW, LAST_SHEET};
 use crate::ends::{End, Ends, in_order};
-use crate::pieces::{cell_parts, cut, read_column, read_row_number, read_sheet, undollared};
+use crate::pieces::{cell_parts, read_column, read_row_number, read_sheet, undollared};
 use crate::read::Spelled;
 use crate::reference::{Marks, Ref, Span};
 
@@ -17,14 +19,15 @@ fn read_written_sheet(text: &[u8]) -> Option<Option<u8>>
     if text.is_empty() {
         return Some(None);
     }
-    match read_sheet(unquoted(undollared(text))) {
+    match read_sheet(bare_name(undollared(text))) {
         Spelled::Is(sheet) => Some(Some(sheet)),
         Spelled::Outside | Spelled::Not => None,
     }
 }
 
-fn unquoted(text: &[u8]) -> &[u8]
-    ensures { result.now ≡ unquoted text.now }
+/// A sheet's name without the quotes round it.
+fn bare_name(text: &[u8]) -> &[u8]
+    ensures { result.now ≡ bare_name text.now }
 {
     match text {
         [b'\'', word @ .., b'\''] => word,
@@ -156,7 +159,7 @@ fn read_span(sheet: Option<u8>, text: &[u8]) -> Option<Ref>
     requires { (n : ℕ) → sheet ≡ Some n → n ≤ LAST_SHEET }
     ensures { result ≡ spelled_span sheet text.now }
 {
-    match cut(text, b':') {
+    match split_once(text, b':') {
         None => one_cell(sheet, text),
         Some((first, rest)) => two_ends(sheet, first, after_point(rest)?),
     }
@@ -167,6 +170,6 @@ fn read_span(sheet: Option<u8>, text: &[u8]) -> Option<Ref>
 pub fn read_ref(text: &[u8]) -> Option<Ref>
     ensures { result ≡ spelled_reference text.now }
 {
-    let (sheet, span) = cut(text, b'.')?;
+    let (sheet, span) = split_once(text, b'.')?;
     read_span(read_written_sheet(sheet)?, span)
 }

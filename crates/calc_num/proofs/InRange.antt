@@ -6,17 +6,6 @@ use Rattle.calc_num.specs.Spelling.{Unsigned, nearest_raw, reading_of, is_negati
 use Rattle.calc_num.specs.declared.num.NumFault.TheVariants.{Over}
 use Rattle.calc_num.specs.declared.parse.Reading.TheVariants.{Number, TooLarge}
 
--- an exact result that is given is the exact number
-pub checked-ok : (n z : ℤ) → checked n ≡ Ok z → (z ≡ n) × IsRaw z
-checked-ok n z is =
-    elim (cases_Bool (is_raw n)) [
-      | inl inside ↦
-          let given = sym (cond-true (is_raw n) (Ok n) (Err Over) inside) ∙ is in
-          let same : z ≡ n = cc in
-          (same, subst IsRaw (sym same) inside)
-      | inr outside ↦ let refused = sym (cond-false (is_raw n) (Ok n) (Err Over) outside) ∙ is in cc
-    ]
-
 in_range : (raw z : ℤ) → (if is_raw raw then Number raw else TooLarge) ≡ Number z → IsRaw z
 in_range raw z is =
     elim (cases_Bool (is_raw raw)) [

@@ -2,7 +2,6 @@ pub mod Digits
 pub mod InRange
 pub mod Picks
 pub mod Powers
-pub mod PrintedBytes
 pub mod Products
 pub mod Readings
 pub mod Roots

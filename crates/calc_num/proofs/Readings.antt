@@ -51,7 +51,3 @@ reading_of-size negative None = refl
 reading_of-size negative (Some n) =
     let signed = nearest-sign negative (numerator n * 10 ^ 9) (denominator n) (power_some _) in
     size-limited Number TooLarge negative (rounded (numerator n * 10 ^ 9) (denominator n)) ∙ ap (λ raw. if is_raw raw then Number raw else TooLarge) (sym signed)
-
--- a text that begins with no sign is read as an unsigned number
-pub reading-unsigned : (byte : ℕ) (rest : List ℕ) → (byte ≡ 45 → ⊥) → (byte ≡ 43 → ⊥) → reading (byte ∷ rest) ≡ reading_of false (unsigned (byte ∷ rest))
-reading-unsigned byte rest no_minus no_plus = rw (ne_eqb byte 45 no_minus, ne_eqb byte 43 no_plus) refl

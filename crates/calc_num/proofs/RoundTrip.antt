@@ -97,13 +97,6 @@ unsigned-point ds fs rest all all_fs some ends =
     let tail = 46 ∷ (fs ++ rest) in
     ap (λ whole. from_parts whole (fraction_digits (behind_digits (ds ++ tail))) (behind_fraction (behind_digits (ds ++ tail)))) (front_digits-append ds tail all refl) ∙ ap (λ t. from_parts ds (fraction_digits t) (behind_fraction t)) (behind_digits-append ds tail all refl) ∙ ap (λ fraction. from_parts ds fraction (behind_digits (fs ++ rest))) (front_digits-append fs rest all_fs ends) ∙ ap (from_parts ds fs) (behind_digits-append fs rest all_fs ends) ∙ from_some ds fs rest (omega (arith, length-append ds fs))
 
--- an exponent's digits
-pub whole_number-digits : (ds : List ℕ) → list_all is_ascii_digit ds ≡ true → 0 < length ds → whole_number ds ≡ Some (digits_number ds)
-whole_number-digits ds all some =
-    let behind : behind_digits ds ≡ [] =
-    ap behind_digits (sym (append-nil ds)) ∙ behind_digits-append ds [] all refl in
-    cond-false (length ds == 0) None (if length (behind_digits ds) == 0 then Some (digits_number ds) else None) (ne_eqb (length ds) 0 (omega arith)) ∙ cond-true (length (behind_digits ds) == 0) (Some (digits_number ds)) None (ap (λ rest. length rest == 0) behind)
-
 -- zeros add nothing
 zeros : (ds : List ℕ) → ((k : ℕ) → k < length ds → get_or ds k 48 ≡ 48) → digits_number ds ≡ 0
 zeros [] each = refl
