@@ -3,13 +3,12 @@ ghost use Rattle.calc_addr.specs.Ends.{AreEnds, reference_of};
 ghost use Rattle.calc_addr.specs.References.{IsSpanned};
 ghost use Rattle.std.specs.Prelude.{IfSome, option_map, ℕ, ◌≡◌, ◌≤◌};
 
-use byte_cuts::split_once;
-
 use crate::cell::{Area, LAST_COL, LAST_ROW, LAST_SHEET};
 use crate::ends::{End, Ends, in_order};
 use crate::pieces::{cell_parts, read_column, read_row_number, read_sheet, undollared};
 use crate::read::Spelled;
 use crate::reference::{Marks, Ref, Span};
+use byte_cuts::split_once;
 
 /// The sheet that stands before the point, if one is written.
 fn read_written_sheet(text: &[u8]) -> Option<Option<u8>>

@@ -1,10 +1,9 @@
 ghost use Rattle.calc_addr.specs.Spelling.{after_sheet, both, sheet_part, spanned, spelled_address, spelled_area, spelled_cell, spelled_col, spelled_corners, spelled_row};
 ghost use Rattle.std.specs.Prelude.{◌≡◌};
 
-use byte_cuts::split_once;
-
 use crate::cell::{Area, Cell};
 use crate::pieces::{cell_parts, read_column, read_row_number, read_sheet, undollared};
+use byte_cuts::split_once;
 
 /// What a word of a script spells.
 #[derive(Clone, Copy, Debug, PartialEq, Eq)]

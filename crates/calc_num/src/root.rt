@@ -52,7 +52,7 @@ fn near_root(square: u128) -> u64
 }
 
 /// The least root that isn't below a square's, from any number, in as many steps as that is off.
-#[tactic(auto, using(crate::proofs::Roots::below_root))]
+#[tactic(auto, using(crate::proofs::Arithmetic::Roots::below_root))]
 fn least_root(square: u128, near: u64) -> u64
     requires square { square < 10 ^ 36 }
     requires near { near ≤ 2 ^ 60 }

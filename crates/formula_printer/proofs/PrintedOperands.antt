@@ -8,13 +8,13 @@ use Rattle.std.proofs.lemmas.Bool.{and_from, and_parts, both_ways, cases_lt, con
 use Rattle.std.proofs.lemmas.List.{append-nil}
 use Rattle.calc_num.specs.Decimals.{is_raw}
 use Rattle.calc_num.specs.Numbers.{printed, printed_fraction, printed_size}
-use Rattle.calc_num.proofs.RoundTrip.{decimal-digits, reading-printed}
-use Rattle.calc_num.proofs.Scale.{digit_range}
+use Rattle.calc_num.proofs.PrintedNumbers.RoundTrip.{decimal-digits, reading-printed}
+use Rattle.calc_num.proofs.ReadNumbers.Scale.{digit_range}
 use Rattle.calc_addr.specs.Bracketed.{printed_reference}
 use Rattle.calc_addr.specs.References.{Reference}
 use Rattle.calc_addr.specs.ValidReferences.{is_valid_reference}
-use Rattle.calc_addr.proofs.ReferenceTests.{tested-valid}
-use Rattle.calc_addr.proofs.ReferenceTrip.{spelled_reference-printed_reference}
+use Rattle.calc_addr.proofs.References.Tests.{tested-valid}
+use Rattle.calc_addr.proofs.References.RoundTrip.{spelled_reference-printed_reference}
 use Rattle.calc_model.specs.declared.tree.Tree.{Tree}
 use Rattle.calc_model.specs.declared.tree.Tree.TheVariants as t
 use Rattle.calc_model.specs.Formed.{is_not_negative}

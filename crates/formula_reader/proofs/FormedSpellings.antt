@@ -8,9 +8,9 @@ use Rattle.std.proofs.lemmas.List.Folds.{list_all-append}
 use Rattle.calc_num.specs.Decimals.{is_raw}
 use Rattle.calc_num.specs.Spelling.{Unsigned, behind_sign, is_negative, nearest_raw, reading_of, unsigned}
 use Rattle.calc_num.specs.declared.parse.Reading.TheVariants as readings
-use Rattle.calc_num.proofs.InRange.{reading-ok}
-use Rattle.calc_addr.proofs.ReferenceInside.{spelled_reference-valid}
-use Rattle.calc_addr.proofs.ReferenceTests.{valid-tested}
+use Rattle.calc_num.proofs.ReadNumbers.InRange.{reading-ok}
+use Rattle.calc_addr.proofs.References.Inside.{spelled_reference-valid}
+use Rattle.calc_addr.proofs.References.Tests.{valid-tested}
 use Rattle.calc_addr.specs.ValidReferences.{is_valid_reference}
 use Rattle.calc_model.proofs.TreeFolds as folds
 use Rattle.calc_model.specs.Contents.{is_error_constant}

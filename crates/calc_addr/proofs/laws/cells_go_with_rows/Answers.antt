@@ -1,4 +1,4 @@
-use Rattle.calc_addr.proofs.Shifting.{covers-deletion, covers-insertion, lost_by_deletion, lost_by_insertion}
+use Rattle.calc_addr.proofs.Shifting.ShiftedAreas.{covers-deletion, covers-insertion, lost_by_deletion, lost_by_insertion}
 use Rattle.calc_addr.proofs.laws.cells_go_with_rows.Goals as goal
 
 pub returns : goal.returns

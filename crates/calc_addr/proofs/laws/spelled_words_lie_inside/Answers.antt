@@ -1,5 +1,5 @@
-use Rattle.calc_addr.proofs.ReferenceInside.{spelled_reference-valid}
-use Rattle.calc_addr.proofs.SpelledInside.{spelled_area-IsRectangle, spelled_cell-IsPlace}
+use Rattle.calc_addr.proofs.References.Inside.{spelled_reference-valid}
+use Rattle.calc_addr.proofs.Spelling.Inside.{spelled_area-IsRectangle, spelled_cell-IsPlace}
 use Rattle.calc_addr.proofs.laws.spelled_words_lie_inside.Goals as goal
 
 pub returns : goal.returns

@@ -1,5 +1,5 @@
 use Rattle.std.proofs.Common.{arith}
-use Rattle.calc_num.proofs.Roots.{least_root-from}
+use Rattle.calc_num.proofs.Arithmetic.Roots.{least_root-from}
 use Rattle.calc_num.proofs.root.least_root.Goals as goal
 
 pub loop-root-2-init : goal.loop-root-2-init

@@ -1,4 +1,4 @@
-use Rattle.calc_num.proofs.Picks.{one_more-nearest, one_more-away, one_more-toward, one_more-floor}
+use Rattle.calc_num.proofs.Arithmetic.Picks.{one_more-nearest, one_more-away, one_more-toward, one_more-floor}
 use Rattle.calc_num.proofs.rounding.is_one_more.Goals as goal
 
 pub returns-in-Nearest : goal.returns-in-Nearest

@@ -1,5 +1,5 @@
 use Rattle.std.proofs.Common.{◌^◌}
-use Rattle.calc_num.proofs.Products.{divide-split, mod-split}
+use Rattle.calc_num.proofs.Arithmetic.Products.{divide-split, mod-split}
 use Rattle.calc_num.proofs.split.divide_small.Goals as goal
 
 pub returns-clause-quotient : goal.returns-clause-quotient

@@ -1,7 +1,7 @@
 use Rattle.std.proofs.Common.{◌≡◌, ◌+◌, ◌-◌, ◌*◌, ◌^◌, ◌≤◌, ◌∙◌, ap, sym, arith}
 use Rattle.std.proofs.Math.Nat.{pow-le-pow_right}
 use Rattle.std.proofs.lemmas.Nat.{pow-add}
-use Rattle.calc_num.proofs.Scale.{POWERS-at, power_some}
+use Rattle.calc_num.proofs.ReadNumbers.Scale.{POWERS-at, power_some}
 use Rattle.calc_num.proofs.tens.power_of_ten.Goals as goal
 
 pub with_zeros-requires-clause-number : goal.with_zeros-requires-clause-number

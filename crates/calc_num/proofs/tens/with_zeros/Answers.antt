@@ -1,5 +1,5 @@
 use Rattle.std.proofs.Common.{◌*◌, ap}
-use Rattle.calc_num.proofs.Scale.{POWERS-at}
+use Rattle.calc_num.proofs.ReadNumbers.Scale.{POWERS-at}
 use Rattle.calc_num.proofs.tens.with_zeros.Goals as goal
 
 pub returns-clause-value : goal.returns-clause-value

@@ -3,7 +3,7 @@ use Rattle.std.specs.BTreeMap.{is_at}
 use Rattle.std.specs.Map.{lookup}
 use mir.Val.{bool_byte}
 use Rattle.calc_addr.specs.Places.{place_cmp}
-use Rattle.calc_addr.proofs.Order.{place_cmp_total}
+use Rattle.calc_addr.proofs.Walking.Order.{place_cmp_total}
 use Rattle.calc_model.specs.Books.{is_held}
 use Rattle.plain_workbook.proofs.Lengths.{length-remove_entry, length-with_content, once}
 use Rattle.plain_workbook.proofs.map.is_full.Goals as goal

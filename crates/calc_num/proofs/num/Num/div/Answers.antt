@@ -1,5 +1,5 @@
 use Rattle.std.proofs.Common.{◌∙◌}
-use Rattle.calc_num.proofs.Products.{div-sizes}
+use Rattle.calc_num.proofs.Arithmetic.Products.{div-sizes}
 use Rattle.calc_num.proofs.num.Num.div.Goals as goal
 
 pub returns : goal.returns

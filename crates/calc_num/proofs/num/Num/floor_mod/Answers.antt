@@ -1,5 +1,5 @@
 use Rattle.std.proofs.Common.{◌∙◌}
-use Rattle.calc_num.proofs.Picks.{floor_mod-sizes}
+use Rattle.calc_num.proofs.Arithmetic.Picks.{floor_mod-sizes}
 use Rattle.calc_num.proofs.num.Num.floor_mod.Goals as goal
 
 pub returns : goal.returns

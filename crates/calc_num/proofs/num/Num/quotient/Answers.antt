@@ -1,5 +1,5 @@
 use Rattle.std.proofs.Common.{◌∙◌}
-use Rattle.calc_num.proofs.Picks.{quotient-sizes}
+use Rattle.calc_num.proofs.Arithmetic.Picks.{quotient-sizes}
 use Rattle.calc_num.proofs.num.Num.quotient.Goals as goal
 
 pub returns : goal.returns

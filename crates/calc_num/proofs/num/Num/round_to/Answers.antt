@@ -2,8 +2,8 @@ use Rattle.std.proofs.Common.{◌≡◌, ◌^◌, ◌*◌, ◌∙◌, ap, sym, m
 use Rattle.std.specs.Int.{w64}
 use Rattle.std.proofs.lemmas.Int.{to_z-of_z}
 use Rattle.calc_num.specs.Decimals.{checked, with_sign, pick, fewer_than_nine}
-use Rattle.calc_num.proofs.Signs.{sign-size}
-use Rattle.calc_num.proofs.Picks.{round_to-sizes}
+use Rattle.calc_num.proofs.Arithmetic.Signs.{sign-size}
+use Rattle.calc_num.proofs.Arithmetic.Picks.{round_to-sizes}
 use Rattle.calc_num.proofs.num.Num.round_to.Goals as goal
 
 pub returns : goal.returns

@@ -1,5 +1,5 @@
 use Rattle.std.proofs.Common.{ℕ, ◌+◌, ◌*◌, ◌^◌, ◌<◌, ◌≤◌, ◌∙◌, Ok, ap, sym, subst}
-use Rattle.calc_num.proofs.Roots.{sqrt-is, IsLeastRoot-from}
+use Rattle.calc_num.proofs.Arithmetic.Roots.{sqrt-is, IsLeastRoot-from}
 use Rattle.calc_num.proofs.num.Num.sqrt.Goals as goal
 
 pub returns-clause-value : goal.returns-clause-value

@@ -1,6 +1,6 @@
 use Rattle.std.proofs.Common.{[], ap, sym, ◌∙◌, arith}
 use Rattle.calc_num.specs.Scaling.{worth}
-use Rattle.calc_num.proofs.Scale.{worth-far}
+use Rattle.calc_num.proofs.ReadNumbers.Scale.{worth-far}
 use Rattle.calc_num.proofs.parse.Partial.finish.Goals as goal
 
 pub returns-then-places-ge27 : goal.returns-then-places-ge27

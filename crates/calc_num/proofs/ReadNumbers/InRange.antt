@@ -1,9 +1,8 @@
 -- What is given as a number is in range.
-use Rattle.std.proofs.Common.{◌≡◌, ℕ, Bool, ℤ, List, Option, Some, None, Ok, Err, if◌then◌else◌, inl, inr, ◌∙◌, sym, subst}
+use Rattle.std.proofs.Common.{◌≡◌, ℕ, Bool, ℤ, List, Option, Some, None, if◌then◌else◌, inl, inr, ◌∙◌, sym, subst}
 use Rattle.std.proofs.lemmas.Bool.{cases_Bool, cond-true, cond-false}
-use Rattle.calc_num.specs.Decimals.{is_raw, IsRaw, checked}
+use Rattle.calc_num.specs.Decimals.{is_raw, IsRaw}
 use Rattle.calc_num.specs.Spelling.{Unsigned, nearest_raw, reading_of, is_negative, behind_sign, unsigned, reading}
-use Rattle.calc_num.specs.declared.num.NumFault.TheVariants.{Over}
 use Rattle.calc_num.specs.declared.parse.Reading.TheVariants.{Number, TooLarge}
 
 in_range : (raw z : ℤ) → (if is_raw raw then Number raw else TooLarge) ≡ Number z → IsRaw z

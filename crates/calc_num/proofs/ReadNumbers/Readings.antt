@@ -3,16 +3,16 @@ use Rattle.std.proofs.Common.{◌≡◌, ℕ, ◌*◌, ◌^◌, ◌<◌, ◌==�
 use Rattle.std.specs.Char.{is_ascii_digit}
 use Rattle.std.specs.List.{list_all, take_while}
 use Rattle.std.specs.Option.{option_map}
-use Rattle.std.proofs.lemmas.Bool.{and_from, cond_both, cond-false, ne_eqb}
+use Rattle.std.proofs.lemmas.Bool.{and_from, cond_both, cond-false}
 use Rattle.std.proofs.lemmas.List.Folds.{list_all-append}
 use Rattle.std.proofs.lemmas.List.Sums.{take_while-cons}
 use Rattle.calc_num.specs.Decimals.{rounded, is_raw}
 use Rattle.calc_num.specs.Scaling.{size_of, size_reading, near}
-use Rattle.calc_num.specs.Spelling.{Unsigned, front_digits, behind_digits, fraction_digits, behind_fraction, exponent, unsigned, numerator, denominator, reading_of, reading}
+use Rattle.calc_num.specs.Spelling.{Unsigned, front_digits, behind_digits, fraction_digits, behind_fraction, exponent, unsigned, numerator, denominator, reading_of}
 use Rattle.calc_num.specs.declared.parse.Reading.TheVariants.{Number, TooLarge}
-use Rattle.calc_num.proofs.Scale.{power_some}
-use Rattle.calc_num.proofs.Signs.{nearest-sign, size-limited}
-use Rattle.calc_num.proofs.Sizes.{size_of-near}
+use Rattle.calc_num.proofs.ReadNumbers.Scale.{power_some}
+use Rattle.calc_num.proofs.Arithmetic.Signs.{nearest-sign, size-limited}
+use Rattle.calc_num.proofs.ReadNumbers.Sizes.{size_of-near}
 
 pub front-all : (text : List ℕ) → list_all is_ascii_digit (front_digits text) ≡ true
 front-all [] = refl

@@ -21,8 +21,8 @@ use Rattle.calc_addr.specs.declared.ends.Ends.{Ends}
 use Rattle.calc_addr.specs.declared.read.Spelled.TheVariants.{Not}
 use Rattle.calc_addr.specs.declared.reference.Span.{Span}
 use Rattle.calc_addr.specs.declared.reference.Span.TheVariants as span
-use Rattle.calc_addr.proofs.EndsInOrder.{in_order-up}
-use Rattle.calc_addr.proofs.RoundTrip.{are_digits-decimal, are_letters-column_letters, column_of-column_letters, column_part-append, cut_at_first, digit_no_dollar, digit_no_letter, digit_no_point, digits_test, letter_no_dollar, list_all-are_digits, list_all-are_letters, list_any-none, no_letter_first, row_of-decimal, row_part-append, sheet_of-sheet_word, undollared-digits, undollared-letters, undollared-with_dollar}
+use Rattle.calc_addr.proofs.References.EndsInOrder.{in_order-up}
+use Rattle.calc_addr.proofs.Spelling.RoundTrip.{are_digits-decimal, are_letters-column_letters, column_of-column_letters, column_part-append, cut_at_first, digit_no_dollar, digit_no_letter, digit_no_point, digits_test, letter_no_dollar, list_all-are_digits, list_all-are_letters, list_any-none, no_letter_first, row_of-decimal, row_part-append, sheet_of-sheet_word, undollared-digits, undollared-letters, undollared-with_dollar}
 
 -- a coordinate's mark and number
 is_marked-letters : (ls : List ℕ) → are_letters ls ≡ true → is_marked ls ≡ false

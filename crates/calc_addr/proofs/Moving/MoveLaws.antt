@@ -13,8 +13,8 @@ use Rattle.calc_addr.specs.declared.ends.End.{End}
 use Rattle.calc_addr.specs.declared.ends.Ends.{Ends}
 use Rattle.calc_addr.specs.declared.reference.Span.{Span}
 use Rattle.calc_addr.specs.declared.reference.Span.TheVariants as span
-use Rattle.calc_addr.proofs.EndsInOrder.{in_order-down, in_order-up}
-use Rattle.calc_addr.proofs.Moving.{moved_spanned}
+use Rattle.calc_addr.proofs.References.EndsInOrder.{in_order-down, in_order-up}
+use Rattle.calc_addr.proofs.Moving.MovedEnds.{moved_spanned}
 
 -- a whole number from 1 to the last
 record IsNumber (last : ℕ) (z : ℤ) (n : ℕ) : Type 0 where

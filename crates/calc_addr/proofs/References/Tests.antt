@@ -1,6 +1,5 @@
 -- The test of references says which ones a formula can have.
-use Rattle.std.proofs.Common.{◌≡◌, Bool, true, false, ◌||◌, refl, arith}
-use Rattle.std.specs.Prelude.{◌==◌}
+use Rattle.std.proofs.Common.{◌≡◌, true, refl, arith}
 use Rattle.std.proofs.lemmas.Bool.Decides.{leb_tells, eqb_tells}
 use Rattle.calc_addr.specs.Places.{Rectangle, IsRectangle}
 use Rattle.calc_addr.specs.References.{Reference, IsSpanned, IsValidReference}

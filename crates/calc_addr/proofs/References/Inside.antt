@@ -14,10 +14,10 @@ use Rattle.calc_addr.specs.declared.read.Spelled.{Spelled}
 use Rattle.calc_addr.specs.declared.read.Spelled.TheVariants.{Is, Outside, Not}
 use Rattle.calc_addr.specs.declared.reference.Span.{Span}
 use Rattle.calc_addr.specs.declared.reference.Span.TheVariants as span
-use Rattle.calc_addr.proofs.EndsInOrder.{in_order-down, in_order-same, in_order-up}
-use Rattle.calc_addr.proofs.Joined.{sheet_of-inside}
-use Rattle.calc_addr.proofs.MoveLaws.{pair_of}
-use Rattle.calc_addr.proofs.SpelledInside.{LiesUpTo, column_of-inside, row_of-inside}
+use Rattle.calc_addr.proofs.References.EndsInOrder.{in_order-down, in_order-same, in_order-up}
+use Rattle.calc_addr.proofs.Spelling.Joined.{sheet_of-inside}
+use Rattle.calc_addr.proofs.Moving.MoveLaws.{pair_of}
+use Rattle.calc_addr.proofs.Spelling.Inside.{LiesUpTo, column_of-inside, row_of-inside}
 
 -- an end that is spelled lies inside
 pub inside_is : (x : Spelled ℕ) (n : ℕ) → inside x ≡ Some n → x ≡ Is n

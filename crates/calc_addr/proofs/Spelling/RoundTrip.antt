@@ -18,7 +18,7 @@ use Rattle.calc_addr.specs.Addresses.{address, sheet_word}
 use Rattle.calc_addr.specs.Spelling.{are_digits, are_digits_or_zero, are_letters, both, column_len, column_of, column_part, row_part, from_zero, is_point, row_of, sheet_of, sheet_part, after_sheet, spelled_address, spelled_cell, undollared, up_to, place_on}
 use Rattle.calc_addr.specs.declared.read.Spelled.{Spelled}
 use Rattle.calc_addr.specs.declared.read.Spelled.TheVariants.{Is}
-use Rattle.calc_addr.proofs.Columns.{last_column}
+use Rattle.calc_addr.proofs.Spelling.Columns.{last_column}
 
 -- the digits of a number
 pub digits_test : IsNumeralModel (λ ds. list_all is_ascii_digit ds ≡ true) (digits_value 10)

@@ -6,8 +6,8 @@ use Rattle.std.proofs.lemmas.List.{get_or-map, length-append, length-map}
 use Rattle.std.proofs.lemmas.List.Elements.{All-contains, All-from_recursion, Contains-append_left, Contains-append_right}
 use Rattle.std.proofs.lemmas.List.FromFn.{length-range_with_len, get_or-range_with_len}
 use Rattle.std.proofs.lemmas.Bool.{and_parts, and_from, leb-true, le-leb, eqb-true, eq-eqb}
-use Rattle.calc_addr.specs.Places.{Place, Rectangle, IsBefore, cell_count, covers, from_to, places, single}
-use Rattle.calc_addr.proofs.Order.{before_in_column, before_in_sheet}
+use Rattle.calc_addr.specs.Places.{Place, Rectangle, IsBefore, cell_count, covers, from_to, places}
+use Rattle.calc_addr.proofs.Walking.Order.{before_in_column, before_in_sheet}
 
 -- what holds of each number of a range
 range_all : (P : ℕ → Type 0) (first n : ℕ) → ((k : ℕ) → first ≤ k → k < first + n → P k) → AllByRecursion P (range_with_len first n)

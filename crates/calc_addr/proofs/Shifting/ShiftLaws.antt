@@ -9,7 +9,7 @@ use Rattle.calc_addr.specs.Shifts.{area_after_insertion, area_after_deletion, ha
 use Rattle.calc_addr.specs.declared.reference.Marks.{Marks}
 use Rattle.calc_addr.specs.declared.reference.Span.{Span}
 use Rattle.calc_addr.specs.declared.reference.Span.TheVariants as span
-use Rattle.calc_addr.proofs.Shifting.{kept, kept_unless}
+use Rattle.calc_addr.proofs.Shifting.ShiftedAreas.{kept, kept_unless}
 
 -- an area with all rows stays
 pub all_rows_stay_inserted : (place count : ℕ) (a : Rectangle) → has_all_rows a ≡ true → area_after_insertion place count a ≡ Some a

@@ -5,8 +5,8 @@ use lib.Signed.{lt_z}
 use Rattle.std.proofs.Math.Nat.{mul-add-div_right, mul-add-mod_self_right, mul-div-mul_left}
 use Rattle.std.proofs.lemmas.Nat.{div-add-mod'}
 use Rattle.calc_num.specs.Decimals.{rounded, nearest, checked, with_sign, div}
-use Rattle.calc_num.proofs.Scale.{rounded-scaled}
-use Rattle.calc_num.proofs.Signs.{not_below_zero, neg-neg, checked-rounded}
+use Rattle.calc_num.proofs.ReadNumbers.Scale.{rounded-scaled}
+use Rattle.calc_num.proofs.Arithmetic.Signs.{not_below_zero, neg-neg, checked-rounded}
 
 -- for an even divisor half of it is added
 pub rounded-even : (p h : ℕ) → 0 < h → rounded p (2 * h) ≡ (p + h) / (2 * h)

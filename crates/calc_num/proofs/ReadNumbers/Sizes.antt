@@ -10,7 +10,7 @@ use Rattle.std.proofs.lemmas.Nat.{pow-add}
 use Rattle.calc_num.specs.Decimals.{rounded}
 use Rattle.calc_num.specs.Scaling.{worth, size_of, near}
 use Rattle.calc_num.specs.Spelling.{digits_number}
-use Rattle.calc_num.proofs.Scale.{rounded-scaled, rounded-whole, both_sides, power_some, digits_number-lt}
+use Rattle.calc_num.proofs.ReadNumbers.Scale.{rounded-scaled, rounded-whole, both_sides, power_some, digits_number-lt}
 
 -- a number whose first digit stands behind the tenth place comes to nothing
 vanishes : (n w f e : ℕ) → n < 10 ^ (w + f) → w + 10 ≤ e → rounded (n * 10 ^ 0 * 10 ^ 9) (10 ^ (f + e)) ≡ 0

@@ -1,7 +1,6 @@
--- The order of cells is a total order, in which no two cells tie.
-use Rattle.std.proofs.Common.{◌≡◌, ℕ, ◌<◌, Ordering, Less, Equal, Greater, refl, arith}
+-- The order of cells is a total order, and how it goes on in a column and in a sheet.
+use Rattle.std.proofs.Common.{ℕ, ◌<◌, arith}
 use Rattle.std.specs.Cmp.{IsTotalOrder}
-use Rattle.std.specs.Ordering.{nat_cmp, ordering_then}
 use Rattle.std.proofs.lemmas.Bool.Decides.{nat_tests}
 use Rattle.std.proofs.lemmas.Cmp.{nat_cmp_total, on_total, then_total}
 use Rattle.calc_addr.specs.Places.{Place, place_cmp, IsBefore}
@@ -9,9 +8,6 @@ use Rattle.calc_addr.specs.Places.{Place, place_cmp, IsBefore}
 pub place_cmp_total : IsTotalOrder place_cmp
 place_cmp_total =
     then_total (on_total (λ (p : Place). p.sheet) nat_cmp_total) (then_total (on_total (λ (p : Place). p.col) nat_cmp_total) (on_total (λ (p : Place). p.row) nat_cmp_total))
-
-tie : (m n : ℕ) → nat_cmp m n ≡ Equal → m ≡ n
-tie m n e = grind (arith, nat_tests)
 
 -- in one column the lower row comes later
 pub before_in_column : (sheet col row later : ℕ) → row < later → IsBefore (record { sheet = sheet; col = col; row = row }) (record { sheet = sheet; col = col; row = later })

@@ -9,7 +9,7 @@ use Rattle.calc_addr.specs.Letters.{column_number}
 use Rattle.calc_addr.specs.Spelling.{after_sheet, are_digits, are_letters, area_on, both, column_of, column_part, is_colon, place_on, row_of, row_part, sheet_part, spanned, spelled_address, spelled_area, spelled_cell, spelled_corners, undollared, up_to}
 use Rattle.calc_addr.specs.declared.read.Spelled.{Spelled}
 use Rattle.calc_addr.specs.declared.read.Spelled.TheVariants.{Is, Outside, Not}
-use Rattle.calc_addr.proofs.Joined.{sheet_part_inside}
+use Rattle.calc_addr.proofs.Spelling.Joined.{sheet_part_inside}
 
 -- both parts of what is spelled
 pub record AreBoth {A B C : Type 0} (f : A → B → C) (x : Spelled A) (y : Spelled B) (c : C) : Type 0 where

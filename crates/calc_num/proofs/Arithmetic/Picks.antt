@@ -13,8 +13,8 @@ use Rattle.calc_num.specs.declared.num.NumFault.TheVariants.{Over}
 use Rattle.calc_num.specs.declared.rounding.Way.{Way}
 use Rattle.calc_num.specs.declared.rounding.Way.TheVariants.{Nearest, Away, Toward, Floor}
 use Rattle.calc_num.specs.Decimals.{rounded, nearest, checked, with_sign, pick, round_to, floor_mod, quotient, fewer_than_nine}
-use Rattle.calc_num.proofs.Scale.{rounded-below_half, rounded-from_half}
-use Rattle.calc_num.proofs.Signs.{nearest-sign, not_below_zero, is_raw-sign, times-sign}
+use Rattle.calc_num.proofs.ReadNumbers.Scale.{rounded-below_half, rounded-from_half}
+use Rattle.calc_num.proofs.Arithmetic.Signs.{nearest-sign, not_below_zero, is_raw-sign, times-sign}
 
 -- rounding up is one more than the quotient of what is below
 up : (n unit : ℕ) → 0 < unit → (suc n + (unit - 1)) / unit ≡ suc (n / unit)

@@ -13,11 +13,11 @@ use Rattle.std.proofs.lemmas.List.Sums.{fold_push, fold-append, prefix_len_passe
 use Rattle.std.proofs.lemmas.List.Folds.{list_all-append}
 use Rattle.calc_num.specs.Decimals.{rounded, is_raw, IsRaw, with_sign}
 use Rattle.calc_num.specs.Numbers.{last_digits, without_end_zeros, printed_fraction, printed_size, printed}
-use Rattle.calc_num.specs.Spelling.{Unsigned, whole_number, front_digits, behind_digits, digits_number, fraction_digits, behind_fraction, exponent, unsigned, numerator, denominator, nearest_raw, is_negative, behind_sign, reading_of, reading}
+use Rattle.calc_num.specs.Spelling.{Unsigned, front_digits, behind_digits, digits_number, fraction_digits, behind_fraction, exponent, unsigned, numerator, denominator, nearest_raw, is_negative, behind_sign, reading_of, reading}
 use Rattle.calc_num.specs.declared.parse.Reading.TheVariants.{Number, TooLarge}
-use Rattle.calc_num.proofs.Digits.{length-last_digits}
-use Rattle.calc_num.proofs.Signs.{nearest-sign, is_raw-sign}
-use Rattle.calc_num.proofs.Scale.{digit_range, digits_behind, both_sides, power_some, rounded-scaled, rounded-whole}
+use Rattle.calc_num.proofs.PrintedNumbers.Digits.{length-last_digits}
+use Rattle.calc_num.proofs.Arithmetic.Signs.{nearest-sign, is_raw-sign}
+use Rattle.calc_num.proofs.ReadNumbers.Scale.{digit_range, digits_behind, both_sides, power_some, rounded-scaled, rounded-whole}
 
 -- a digit of a number below ten
 digit_is : (n : ℕ) → n < 10 → is_ascii_digit (48 + n) ≡ true
