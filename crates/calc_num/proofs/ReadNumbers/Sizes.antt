@@ -1,9 +1,10 @@
 -- The size of an unsigned number by its digits and places, and what exponents that are far out come to.
-use Rattle.std.proofs.Common.{◌≡◌, ℕ, zero, suc, ◌+◌, ◌*◌, ◌^◌, ◌<◌, ◌≤◌, min, true, List, ◌++◌, length, Some, ℤ, pos, negsuc, neg_ℤ, ◌+ℤ◌, ◌<ℤ◌, inl, inr, refl, ap, ◌∙◌, sym, subst, arith}
+use Rattle.std.proofs.Common.{◌≡◌, ℕ, zero, suc, ◌+◌, ◌*◌, ◌^◌, ◌<◌, ◌≤◌, min, true, false, unsigned_abs, List, ◌++◌, length, Some, ℤ, pos, negsuc, neg_ℤ, ◌+ℤ◌, ◌<ℤ◌, inl, inr, refl, ap, ◌∙◌, sym, subst, arith}
+use lib.Signed.{lt_z}
 use Rattle.std.specs.Char.{is_ascii_digit}
 use Rattle.std.specs.List.{list_all}
 use Rattle.std.proofs.Math.Nat.{mul-le-mul_right, pow-le-pow_right, div-eq_of_lt, le-div_iff_mul-le, min-eq_left, min-eq_right}
-use Rattle.std.proofs.lemmas.Bool.{cases_lt, cases_eq}
+use Rattle.std.proofs.lemmas.Bool.{cases_lt, cases_eq, false≢true}
 use Rattle.std.proofs.lemmas.Int.{ints}
 use Rattle.std.proofs.lemmas.List.{length-append}
 use Rattle.std.proofs.lemmas.Nat.{pow-add}
@@ -11,6 +12,7 @@ use Rattle.calc_num.specs.Decimals.{rounded}
 use Rattle.calc_num.specs.Scaling.{worth, size_of, near}
 use Rattle.calc_num.specs.Spelling.{digits_number}
 use Rattle.calc_num.proofs.ReadNumbers.Scale.{rounded-scaled, rounded-whole, both_sides, power_some, digits_number-lt}
+use Rattle.calc_num.proofs.Arithmetic.Signs.{not_below_zero}
 
 -- a number whose first digit stands behind the tenth place comes to nothing
 vanishes : (n w f e : ℕ) → n < 10 ^ (w + f) → w + 10 ≤ e → rounded (n * 10 ^ 0 * 10 ^ 9) (10 ^ (f + e)) ≡ 0
@@ -126,3 +128,33 @@ size_of-near whole fraction (pos e) all short_whole short_fraction =
     bounded_high whole fraction e (10 ^ 20) (omega arith)
 size_of-near whole fraction (negsuc e) all short_whole short_fraction =
     bounded_low whole fraction e (10 ^ 20) all (omega arith)
+
+-- all digits as one number, with zeros behind them or without the last ones, in front of the cut
+lengthened : (n r f d zeros : ℕ) → r + 9 ≡ f + d + zeros → rounded (n * 10 ^ r * 10 ^ 9) (10 ^ (f + d)) ≡ n * 10 ^ zeros
+lengthened n r f d zeros sum =
+    let q = 10 ^ (f + d) in
+    let powers : 10 ^ r * 10 ^ 9 ≡ q * 10 ^ zeros = sym (pow-add 10 r 9) ∙ ap (λ k. 10 ^ k) sum ∙ pow-add 10 (f + d) zeros in
+    let top : n * 10 ^ r * 10 ^ 9 ≡ q * (n * 10 ^ zeros) = omega arith ∙ ap (λ p. n * p) powers ∙ omega arith in
+    let once : q ≡ q * 1 = omega arith in
+    ap (λ p. rounded p q) top ∙ ap (rounded (q * (n * 10 ^ zeros))) once ∙ rounded-scaled q (n * 10 ^ zeros) 1 (power_some (f + d)) ∙ rounded-whole (n * 10 ^ zeros)
+
+shortened : (n r f d digits : ℕ) → r + 9 + digits ≡ f + d → rounded (n * 10 ^ r * 10 ^ 9) (10 ^ (f + d)) ≡ rounded n (10 ^ digits)
+shortened n r f d digits sum =
+    let u = 10 ^ (r + 9) in
+    let top : n * 10 ^ r * 10 ^ 9 ≡ u * n = rw (pow-add 10 r 9) (omega arith) in
+    let bottom : 10 ^ (f + d) ≡ u * 10 ^ digits = ap (λ k. 10 ^ k) (sym sum) ∙ pow-add 10 (r + 9) digits in
+    rw (top, bottom) (rounded-scaled u n (10 ^ digits) (power_some (r + 9)))
+
+pub size_of-lengthened : (whole fraction : List ℕ) (exponent zeros : ℤ) → lt_z zeros (pos 0) ≡ false → pos (length fraction) +ℤ zeros ≡ pos 9 +ℤ exponent → min ((digits_number whole * 10 ^ length fraction + digits_number fraction) * 10 ^ unsigned_abs zeros) (10 ^ 27) ≡ size_of record { whole = whole; fraction = fraction; exponent = exponent }
+size_of-lengthened whole fraction (pos e) (pos zeros) some sum =
+    rw (both_sides whole fraction) (ap (λ r. min r (10 ^ 27)) (sym (lengthened (digits_number whole * 10 ^ length fraction + digits_number fraction) e (length fraction) 0 zeros (omega (arith, ints)))))
+size_of-lengthened whole fraction (negsuc e) (pos zeros) some sum =
+    rw (both_sides whole fraction) (ap (λ r. min r (10 ^ 27)) (sym (lengthened (digits_number whole * 10 ^ length fraction + digits_number fraction) 0 (length fraction) (suc e) zeros (omega (arith, ints)))))
+size_of-lengthened whole fraction exponent (negsuc below) some sum = absurd (false≢true (sym some))
+
+pub size_of-shortened : (whole fraction : List ℕ) (exponent zeros : ℤ) → lt_z zeros (pos 0) ≡ true → pos (length fraction) +ℤ zeros ≡ pos 9 +ℤ exponent → min (rounded (digits_number whole * 10 ^ length fraction + digits_number fraction) (10 ^ unsigned_abs zeros)) (10 ^ 27) ≡ size_of record { whole = whole; fraction = fraction; exponent = exponent }
+size_of-shortened whole fraction exponent (pos zeros) none sum = absurd (false≢true (sym (not_below_zero zeros) ∙ none))
+size_of-shortened whole fraction (pos e) (negsuc below) none sum =
+    rw (both_sides whole fraction) (ap (λ r. min r (10 ^ 27)) (sym (shortened (digits_number whole * 10 ^ length fraction + digits_number fraction) e (length fraction) 0 (suc below) (omega (arith, ints)))))
+size_of-shortened whole fraction (negsuc e) (negsuc below) none sum =
+    rw (both_sides whole fraction) (ap (λ r. min r (10 ^ 27)) (sym (shortened (digits_number whole * 10 ^ length fraction + digits_number fraction) 0 (length fraction) (suc e) (suc below) (omega (arith, ints)))))
