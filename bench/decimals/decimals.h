@@ -237,6 +237,18 @@ static inline struct digits digits_at(const char *at, const char *end) {
     return (struct digits){at, number, (size_t)(at - start)};
 }
 
+static inline struct outcome lengthened(int negative, u128 number, unsigned zeros) {
+    u128 size;
+    if (__builtin_mul_overflow(number, power_of_ten(zeros), &size))
+        return fail(OVER);
+    return from_size(negative, size);
+}
+
+static inline struct outcome shortened(int negative, u128 number, unsigned digits) {
+    u128 unit = power_of_ten(digits), rest, size = divided(number, unit, &rest);
+    return from_size(negative, size + (2 * rest >= unit));
+}
+
 /* A size with a shift by powers of ten, for numbers of any length: past 28 digits only the shift counts. */
 static struct outcome read_long(int negative, const char *at, const char *end, long shift) {
     u128 size = 0;
@@ -299,6 +311,10 @@ static inline struct outcome read(const char *text, size_t length) {
     if (whole.count < 19 && fraction.count < 19 && before <= 18 && behind >= 0) {
         u128 size = (u128)whole.number * powers[before] + (u128)fraction.number * powers[behind];
         return from_size(negative, size);
+    }
+    if (whole.count < 19 && fraction.count < 19 && -28 <= behind && behind <= 28) {
+        u128 number = (u128)whole.number * powers[fraction.count] + fraction.number;
+        return behind < 0 ? shortened(negative, number, (unsigned)-behind) : lengthened(negative, number, (unsigned)behind);
     }
     return read_long(negative, start, fraction.end, 9 + exponent);
 }

@@ -78,6 +78,7 @@ impl Num {
     }
 
     /// The quotient, rounded once. A divisor of zero is `DivZero`; its other fault is `Over`.
+    #[tactic(auto, using(crate::proofs::Arithmetic::Products::div_of_sizes))]
     pub fn div(self, other: Num) -> Result<Num, NumFault>
         ensures { result ≡ div self other }
     {

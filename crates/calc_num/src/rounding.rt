@@ -90,6 +90,7 @@ impl Num {
 
     /// What is left of the number when the divisor is taken off as often as the quotient, rounded
     /// down, says: it has the divisor's sign and is smaller. No fault but a divisor of zero.
+    #[tactic(auto, using(crate::proofs::Arithmetic::Picks::floor_mod_of_sizes))]
     pub fn floor_mod(self, other: Num) -> Result<Num, NumFault>
         ensures { result ≡ floor_mod self other }
     {
@@ -104,6 +105,7 @@ impl Num {
 
     /// The whole part of the quotient, cut toward zero. A divisor of zero is `DivZero`; its other fault
     /// is `Over`.
+    #[tactic(auto, using(crate::proofs::Arithmetic::Picks::quotient_of_sizes))]
     pub fn quotient(self, other: Num) -> Result<Num, NumFault>
         ensures { result ≡ quotient self other }
     {

@@ -185,8 +185,8 @@ IsReference-moved cols rows r s is to =
       own_sheet = is.own_sheet;
     })
 
-pub IsValidReference-moved : (cols rows : ℤ) (r s : Reference) → IsValidReference r → moved_reference cols rows r ≡ Some s → IsValidReference s
-IsValidReference-moved cols rows r s is to =
+pub moved_stays_valid : (cols rows : ℤ) (r s : Reference) → IsValidReference r → moved_reference cols rows r ≡ Some s → IsValidReference s
+moved_stays_valid cols rows r s is to =
     record { lies = IsRectangle-moved cols rows r s is.lies to; spelled = IsReference-moved cols rows r s is.spelled to }
 
 -- the opposite move gives the reference back

@@ -163,8 +163,8 @@ written_sheet-inside text sheet e =
     (λ n h m k. let same : n ≡ m = cc in sheet_of-inside word m (inside_is (sheet_of word) m (h ∙ ap Some same)))) e
 
 -- what is spelled is a reference that a formula can have
-pub spelled_reference-valid : (text : List ℕ) (r : Reference) → spelled_reference text ≡ Some r → IsValidReference r
-spelled_reference-valid text r e =
+pub spelled_references_lie_inside : (text : List ℕ) (r : Reference) → spelled_reference text ≡ Some r → IsValidReference r
+spelled_references_lie_inside text r e =
     let rest = after_first is_point text in
     either IsValidReference (list_any is_point text) (option_and_then (λ sheet. spelled_span sheet rest) (written_sheet (before_first is_point text))) None r
     (followed IsValidReference (λ sheet. spelled_span sheet rest) (written_sheet (before_first is_point text)) r

@@ -256,8 +256,8 @@ is_written true sheet high own = record {
 is_written false sheet high own = record { number = sym (own refl); mark = refl; spelled = refl; no_point = refl }
 
 -- what is printed for a reference is read as that reference
-pub spelled_reference-printed_reference : (r : Reference) → IsRectangle r.area → IsReference r → spelled_reference (printed_reference r) ≡ Some r
-spelled_reference-printed_reference r lies is =
+pub references_read_back : (r : Reference) → IsRectangle r.area → IsReference r → spelled_reference (printed_reference r) ≡ Some r
+references_read_back r lies is =
     let sheet = written r.marks.sheet r.area.sheet in
     let front = printed_sheet r in
     let rest = printed_span r.span (cols_of r) (rows_of r) in

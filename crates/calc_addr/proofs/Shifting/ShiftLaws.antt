@@ -150,13 +150,13 @@ IsReference-deletion place count r s is e =
       own_sheet = λ h. sheet_deleted place count r.area s.area to.area ∙ is.own_sheet h;
     })
 
-pub IsValidReference-insertion : (place count : ℕ) (r s : Reference) → IsValidReference r → reference_after_insertion place count r ≡ Some s → IsValidReference s
-IsValidReference-insertion place count r s is e =
+pub inserted_stays_valid : (place count : ℕ) (r s : Reference) → IsValidReference r → reference_after_insertion place count r ≡ Some s → IsValidReference s
+inserted_stays_valid place count r s is e =
     let to = shifted (area_after_insertion place count r.area) r s e in
     record { lies = IsRectangle-insertion place count r.area s.area is.lies to.area; spelled = IsReference-insertion place count r s is.spelled e }
 
-pub IsValidReference-deletion : (place count : ℕ) (r s : Reference) → 1 ≤ place → IsValidReference r → reference_after_deletion place count r ≡ Some s → IsValidReference s
-IsValidReference-deletion place count r s low is e =
+pub deleted_stays_valid : (place count : ℕ) (r s : Reference) → 1 ≤ place → IsValidReference r → reference_after_deletion place count r ≡ Some s → IsValidReference s
+deleted_stays_valid place count r s low is e =
     let to = shifted (area_after_deletion place count r.area) r s e in
     record { lies = IsRectangle-deletion place count r.area s.area low is.lies to.area; spelled = IsReference-deletion place count r s is.spelled e }
 

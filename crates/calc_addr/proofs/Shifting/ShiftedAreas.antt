@@ -45,8 +45,8 @@ covers-with_rows a first last row q above below =
     ∙ ap (λ t. (((q.sheet == a.sheet) && nat_le a.first_col q.col && nat_le q.col a.last_col) && nat_le a.first_row q.row) && t) below
 
 -- a cell lies in the area after an insertion where it lay in it before
-pub covers-insertion : (place count : ℕ) (a b : Rectangle) (q : Place) → has_all_rows a ≡ false → area_after_insertion place count a ≡ Some b → row_after_insertion place count q.row ≤ 1048576 → covers b (record q { row = row_after_insertion place count q.row }) ≡ covers a q
-covers-insertion place count a b q part e stays =
+pub covers_after_insertion : (place count : ℕ) (a b : Rectangle) (q : Place) → has_all_rows a ≡ false → area_after_insertion place count a ≡ Some b → row_after_insertion place count q.row ≤ 1048576 → covers b (record q { row = row_after_insertion place count q.row }) ≡ covers a q
+covers_after_insertion place count a b q part e stays =
     let first = row_after_insertion place count a.first_row in
     let last = min (row_after_insertion place count a.last_row) 1048576 in
     let row = row_after_insertion place count q.row in
@@ -55,8 +55,8 @@ covers-insertion place count a b q part e stays =
     ∙ covers-with_rows a first last row q (nat_le-insertion place count a.first_row q.row) (nat_le-insertion_cut place count q.row a.last_row stays)
 
 -- and after a deletion, unless it is deleted
-pub covers-deletion : (place count : ℕ) (a b : Rectangle) (q : Place) → 1 ≤ place → has_all_rows a ≡ false → area_after_deletion place count a ≡ Some b → is_deleted place count q.row ≡ false → covers b (record q { row = row_after_deletion place count q.row }) ≡ covers a q
-covers-deletion place count a b q low part e stays =
+pub covers_after_deletion : (place count : ℕ) (a b : Rectangle) (q : Place) → 1 ≤ place → has_all_rows a ≡ false → area_after_deletion place count a ≡ Some b → is_deleted place count q.row ≡ false → covers b (record q { row = row_after_deletion place count q.row }) ≡ covers a q
+covers_after_deletion place count a b q low part e stays =
     let first = cond (is_deleted place count a.first_row) place (row_after_deletion place count a.first_row) in
     let last = cond (is_deleted place count a.last_row) (place - 1) (row_after_deletion place count a.last_row) in
     let row = row_after_deletion place count q.row in

@@ -60,8 +60,8 @@ spelled_address-IsPlace text p e =
     let row = row_of-inside (undollared (row_part text)) parts.second parts.second_is in
     subst IsPlace parts.made (record { sheet_in = omega arith; col_from = col.from; col_to = col.to; row_from = row.from; row_to = row.to })
 
-pub spelled_cell-IsPlace : (text : List ℕ) (p : Place) → spelled_cell text ≡ Is p → IsPlace p
-spelled_cell-IsPlace text p e =
+pub spelled_cells_lie_inside : (text : List ℕ) (p : Place) → spelled_cell text ≡ Is p → IsPlace p
+spelled_cells_lie_inside text p e =
     let parts = both_from place_on (sheet_part text) (spelled_address (after_sheet text)) p e in
     let there = spelled_address-IsPlace (after_sheet text) parts.second parts.second_is in
     subst IsPlace parts.made (record {
@@ -100,8 +100,8 @@ spelled_corners-IsRectangle text a e =
     (both spanned (spelled_address text) (spelled_address text)) a
     (two_corners (before_first is_colon text) (after_first is_colon text) a) (two_corners text text a) e
 
-pub spelled_area-IsRectangle : (text : List ℕ) (a : Rectangle) → spelled_area text ≡ Is a → IsRectangle a
-spelled_area-IsRectangle text a e =
+pub spelled_areas_lie_inside : (text : List ℕ) (a : Rectangle) → spelled_area text ≡ Is a → IsRectangle a
+spelled_areas_lie_inside text a e =
     let parts = both_from area_on (sheet_part text) (spelled_corners (after_sheet text)) a e in
     let there = spelled_corners-IsRectangle (after_sheet text) parts.second parts.second_is in
     subst IsRectangle parts.made (record {

@@ -247,8 +247,8 @@ joined text rest sheet q part after address =
     ∙ ap (both place_on (Is sheet)) address
 
 -- what is printed for a cell is read as that cell
-pub spelled_cell-address : (p : Place) → IsPlace p → spelled_cell (address p) ≡ Is p
-spelled_cell-address p is =
+pub cells_read_back : (p : Place) → IsPlace p → spelled_cell (address p) ≡ Is p
+cells_read_back p is =
     let ls = column_letters p.col in
     let ds = decimal p.row in
     let letters = are_letters-column_letters p.col is.col_from in

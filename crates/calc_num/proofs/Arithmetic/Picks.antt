@@ -156,31 +156,31 @@ zero_rest d some =
     let whole : d - 0 ≡ 1 * d + 0 = omega arith in
     ap (λ k. (d - k) % d) (mod-eq_of_lt {n = 0} {m = d} some) ∙ ap (λ k. k % d) whole ∙ mod-mul-add 1 d 0 some
 
-pub floor_mod-sizes : (n m : ℤ) → (nat_abs m ≡ 0 → ⊥) → Ok (with_sign (lt_z m (pos 0)) (if not (beq (lt_z n (pos 0)) (lt_z m (pos 0))) then (nat_abs m - nat_abs n % nat_abs m) % nat_abs m else nat_abs n % nat_abs m)) ≡ floor_mod n m
-floor_mod-sizes n (pos zero) some = absurd (some refl)
-floor_mod-sizes (pos n) (pos (suc m)) some =
+pub floor_mod_of_sizes : (n m : ℤ) → (nat_abs m ≡ 0 → ⊥) → Ok (with_sign (lt_z m (pos 0)) (if not (beq (lt_z n (pos 0)) (lt_z m (pos 0))) then (nat_abs m - nat_abs n % nat_abs m) % nat_abs m else nat_abs n % nat_abs m)) ≡ floor_mod n m
+floor_mod_of_sizes n (pos zero) some = absurd (some refl)
+floor_mod_of_sizes (pos n) (pos (suc m)) some =
     let parts = div-add-mod' n (suc m) in
     rw (not_below_zero n, not_below_zero (suc m)) (ap Ok (omega (arith, ints)))
-floor_mod-sizes (negsuc n) (pos (suc m)) some =
+floor_mod_of_sizes (negsuc n) (pos (suc m)) some =
     let parts = div-add-mod' n (suc m) in
     let small = mod_below n (suc m) (omega arith) in
     rw (not_below_zero (suc m), opposite_rest n (suc m) (omega arith)) (ap Ok (omega (arith, ints)))
-floor_mod-sizes (pos zero) (negsuc m) some =
+floor_mod_of_sizes (pos zero) (negsuc m) some =
     let none = none_down 0 (suc m) (omega arith) in
     rw (zero_rest (suc m) (omega arith), none) (ap Ok (omega (arith, ints)))
-floor_mod-sizes (pos (suc n)) (negsuc m) some =
+floor_mod_of_sizes (pos (suc n)) (negsuc m) some =
     let parts = div-add-mod' n (suc m) in
     let small = mod_below n (suc m) (omega arith) in
     rw (not_below_zero (suc n), opposite_rest n (suc m) (omega arith)) (ap Ok (omega (arith, ints)))
-floor_mod-sizes (negsuc n) (negsuc m) some =
+floor_mod_of_sizes (negsuc n) (negsuc m) some =
     let parts = div-add-mod' (suc n) (suc m) in
     ap Ok (omega (arith, ints))
 
 -- a cut quotient
-pub quotient-sizes : (n m : ℤ) → (nat_abs m ≡ 0 → ⊥) → checked (with_sign (not (beq (lt_z n (pos 0)) (lt_z m (pos 0)))) (nat_abs n / nat_abs m * 10 ^ 9)) ≡ quotient n m
-quotient-sizes n (pos zero) some = absurd (some refl)
-quotient-sizes (pos n) (pos (suc m)) some = rw (not_below_zero n, not_below_zero (suc m)) refl
-quotient-sizes (negsuc n) (pos (suc m)) some =
+pub quotient_of_sizes : (n m : ℤ) → (nat_abs m ≡ 0 → ⊥) → checked (with_sign (not (beq (lt_z n (pos 0)) (lt_z m (pos 0)))) (nat_abs n / nat_abs m * 10 ^ 9)) ≡ quotient n m
+quotient_of_sizes n (pos zero) some = absurd (some refl)
+quotient_of_sizes (pos n) (pos (suc m)) some = rw (not_below_zero n, not_below_zero (suc m)) refl
+quotient_of_sizes (negsuc n) (pos (suc m)) some =
     rw (not_below_zero (suc m)) (ap checked (times-sign true (suc n / suc m) (10 ^ 9)))
-quotient-sizes (pos n) (negsuc m) some = rw (not_below_zero n) (ap checked (times-sign true (n / suc m) (10 ^ 9)))
-quotient-sizes (negsuc n) (negsuc m) some = refl
+quotient_of_sizes (pos n) (negsuc m) some = rw (not_below_zero n) (ap checked (times-sign true (n / suc m) (10 ^ 9)))
+quotient_of_sizes (negsuc n) (negsuc m) some = refl

@@ -49,15 +49,15 @@ rounded-reduced a b u v some whole =
     let bottom : b ≡ u * (b / u) = sym (div-add-mod' b u) ∙ rw whole (omega arith) in
     rw top (ap (rounded (u * (a * v))) bottom ∙ rounded-scaled u (a * v) (b / u) some)
 
-pub div-sizes : (n m : ℤ) → (nat_abs m ≡ 0 → ⊥) → checked (with_sign (not (beq (lt_z n (pos 0)) (lt_z m (pos 0)))) (min (rounded (nat_abs n * 10 ^ 9) (nat_abs m)) (10 ^ 27))) ≡ div n m
-div-sizes n (pos zero) some = absurd (some refl)
-div-sizes (pos n) (pos (suc m)) some =
+pub div_of_sizes : (n m : ℤ) → (nat_abs m ≡ 0 → ⊥) → checked (with_sign (not (beq (lt_z n (pos 0)) (lt_z m (pos 0)))) (min (rounded (nat_abs n * 10 ^ 9) (nat_abs m)) (10 ^ 27))) ≡ div n m
+div_of_sizes n (pos zero) some = absurd (some refl)
+div_of_sizes (pos n) (pos (suc m)) some =
     rw (not_below_zero n, not_below_zero (suc m)) (checked-rounded false (n * 10 ^ 9) (suc m) (omega arith))
-div-sizes (negsuc n) (pos (suc m)) some =
+div_of_sizes (negsuc n) (pos (suc m)) some =
     rw (not_below_zero (suc m)) (checked-rounded true (suc n * 10 ^ 9) (suc m) (omega arith))
-div-sizes (pos n) (negsuc m) some =
+div_of_sizes (pos n) (negsuc m) some =
     rw (not_below_zero n) (checked-rounded true (n * 10 ^ 9) (suc m) (omega arith))
-div-sizes (negsuc n) (negsuc m) some =
+div_of_sizes (negsuc n) (negsuc m) some =
     checked-rounded false (suc n * 10 ^ 9) (suc m) (omega arith) ∙ ap (λ p. checked (nearest p (suc m))) (sym (neg-neg (suc n * 10 ^ 9)))
 
 -- a division in two steps: of the front alone, and of what that leaves with the last part behind it
