@@ -2,9 +2,9 @@ ghost use Rattle.std.specs.Prelude.{◌≡◌, ◌≤◌, ◌↔◌, nat_le, [],
 ghost use Rattle.std.specs.List.{All};
 ghost use Rattle.std.specs.Option.{option_copied};
 ghost use Rattle.calc_model.specs.Books.{IsBook, content_at, formula_count, is_content, is_held, is_place, with_content};
-ghost use Rattle.calc_model.specs.Step.{is_edit};
+ghost use Rattle.calc_model.specs.Step.{is_edit, without_area};
 
-use calc_addr::{Cell, NoMemory};
+use calc_addr::{Area, Cell, NoMemory};
 use calc_model::{Content, Edit, MOST_CELLS};
 use std::alloc::Global;
 use std::collections::BTreeMap;
@@ -47,6 +47,7 @@ impl CellMap {
     /// How many cells aren't empty.
     pub fn len(&self) -> usize
         ensures cells { result ≡ length self.now.cells }
+        ensures names { self.now.names ≡ [] }
         ensures book { IsBook self.now }
     {
         self.cells.len()
@@ -92,6 +93,15 @@ impl CellMap {
         Ok(())
     }
 
+    /// Empties the cells of an area.
+    pub fn clear(&mut self, area: Area)
+        ensures cells { self.new.cells ≡ without_area self.old.cells area }
+        ensures names { self.new.names ≡ self.old.names }
+        ensures book { IsBook self.new }
+    {
+        remove_area(&mut self.cells, area);
+    }
+
     /// How many cells hold a formula. Linear in the cells.
     #[tactic(auto, unfolding(calc_model::specs::Books::formula_count))]
     pub fn formula_count(&self) -> usize
@@ -107,6 +117,7 @@ impl CellMap {
     pub fn iter(&self) -> Iter<'_, Cell, Content>
         ensures rest { result ≡ self.now.cells }
         ensures found { All (λ entry. content_at self.now entry.0 ≡ entry.1) self.now.cells }
+        ensures names { self.now.names ≡ [] }
         ensures book { IsBook self.now }
     {
         self.cells.iter()
@@ -126,6 +137,12 @@ fn put(cells: &mut BTreeMap<Cell, Content>, cell: Cell, content: Content) -> Res
         cells.remove(&cell);
     }
     Ok(())
+}
+
+fn remove_area(cells: &mut BTreeMap<Cell, Content>, area: Area)
+    ensures { cells.new.entries ≡ without_area cells.old.entries area }
+{
+    cells.retain(|cell, _| !area.covers(*cell));
 }
 
 /// The cell, which lies in one of the sheets as every cell does.
