@@ -1,0 +1,10 @@
+use Rattle.std.proofs.Common.{subst}
+use Rattle.formula_reader.specs.Fields.{field_of}
+use Rattle.formula_reader.proofs.Meaning.{field_reads}
+use Rattle.calc_cli.specs.Output.{answer}
+use Rattle.calc_cli.specs.Sessions.{Replies, session_of}
+use Rattle.calc_cli.proofs.output.reply_to.Goals as goal
+
+pub returns : goal.returns
+returns c =
+    subst (λ line. Replies c.answer_line.result (session_of c.answer_line.new.workbook) (answer (session_of c.args.workbook.now) c.args.number line)) (c.in_ok-line.ensures field_of field_reads) c.answer_line.ensures
