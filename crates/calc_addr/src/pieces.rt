@@ -111,7 +111,8 @@ fn sheet_number(digits: &[u8]) -> Spelled<u8>
 
 fn number_or_zero(text: &[u8]) -> Option<u32>
     ensures { result
-        ≡ if are_digits_or_zero text.now then Some (min (digits_value 10 text.now) (2 ^ 32 - 1)) else None }
+        ≡ if are_digits_or_zero text.now
+        then Some (min (digits_value 10 text.now) (2 ^ 32 - 1)) else None }
 {
     match text {
         [b'0'] => Some(0),
