@@ -1,3 +1,3 @@
 -- Worked examples.
-mod Spelled
-mod Shifted
+mod SpellingExamples
+mod ShiftExamples

@@ -77,8 +77,8 @@ fn is_marked(text: &[u8]) -> bool
 
 fn read_corner(text: &[u8]) -> Option<(End, End)>
     ensures ends { result ≡ corner_ends text.now }
-    ensures inside { IfSome result (λ corner. (1 ≤ corner.0.at) × (corner.0.at ≤ LAST_COL) × (1 ≤ corner.1.at)
-        × (corner.1.at ≤ LAST_ROW)) }
+    ensures inside { IfSome result (λ corner. (1 ≤ corner.0.at) × (corner.0.at ≤ LAST_COL)
+        × (1 ≤ corner.1.at) × (corner.1.at ≤ LAST_ROW)) }
 {
     let (col, row) = cell_parts(text);
     Some((read_column_end(col)?, read_row_end(row)?))
@@ -88,7 +88,8 @@ fn reference(sheet: Option<u8>, span: Span, cols: Ends, rows: Ends) -> Ref
     requires sheet { IsSheet sheet }
     requires cols { AreEnds LAST_COL cols }
     requires rows { AreEnds LAST_ROW rows }
-    requires span { IsSpanned span (reference_of sheet span cols rows).area (reference_of sheet span cols rows).marks }
+    requires span { IsSpanned span
+        (reference_of sheet span cols rows).area (reference_of sheet span cols rows).marks }
     ensures { result ≡ reference_of sheet span cols rows }
 {
     Ref {

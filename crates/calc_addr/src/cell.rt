@@ -52,11 +52,32 @@ impl Model for Area {
 
     ghost Value = { Rectangle };
 
-    ghost view = { λ a. record { sheet = a.sheet; first_col = a.first_col; last_col = a.last_col; first_row = a.first_row; last_row = a.last_row } };
+    ghost view = { λ a.
+        record {
+          sheet = a.sheet;
+          first_col = a.first_col;
+          last_col = a.last_col;
+          first_row = a.first_row;
+          last_row = a.last_row;
+        } };
 
-    ghost invariant = { λ a. IsRectangle (record { sheet = a.sheet; first_col = a.first_col; last_col = a.last_col; first_row = a.first_row; last_row = a.last_row }) };
+    ghost invariant = { λ a.
+        IsRectangle (record {
+          sheet = a.sheet;
+          first_col = a.first_col;
+          last_col = a.last_col;
+          first_row = a.first_row;
+          last_row = a.last_row;
+        }) };
 
-    ghost inverse = { λ r. record { sheet = r.sheet; first_col = r.first_col; last_col = r.last_col; first_row = r.first_row; last_row = r.last_row } };
+    ghost inverse = { λ r.
+        record {
+          sheet = r.sheet;
+          first_col = r.first_col;
+          last_col = r.last_col;
+          first_row = r.first_row;
+          last_row = r.last_row;
+        } };
 }
 
 /// Neighbouring rows of one column.
@@ -79,9 +100,21 @@ impl Model for Run {
 
     ghost view = { λ r. record { sheet = r.sheet; col = r.col; first = r.first; last = r.last } };
 
-    ghost invariant = { λ r. IsRows (record { sheet = r.sheet; col = r.col; first = r.first; last = r.last }) };
+    ghost invariant = { λ r.
+        IsRows (record {
+          sheet = r.sheet;
+          col = r.col;
+          first = r.first;
+          last = r.last;
+        }) };
 
-    ghost inverse = { λ r. record { sheet = r.sheet; col = r.col; first = r.first; last = r.last } };
+    ghost inverse = { λ r.
+        record {
+          sheet = r.sheet;
+          col = r.col;
+          first = r.first;
+          last = r.last;
+        } };
 }
 
 impl Area {

@@ -19,14 +19,16 @@ pub fn cells_read_back()
 /// What is printed for a reference is read as that reference.
 #[tactic(auto, using(crate::proofs::References::RoundTrip::references_read_back))]
 pub fn references_read_back()
-    ensures { (r : Reference) → IsRectangle r.area → IsReference r → spelled_reference (printed_reference r) ≡ Some r }
+    ensures { (r : Reference) → IsRectangle r.area → IsReference r
+        → spelled_reference (printed_reference r) ≡ Some r }
 {}
 
 /// What is spelled lies in the sheets, and its ends are in order.
 pub fn spelled_words_lie_inside()
     ensures cells { (text : List ℕ) (p : Place) → spelled_cell text ≡ Is p → IsPlace p }
     ensures areas { (text : List ℕ) (a : Rectangle) → spelled_area text ≡ Is a → IsRectangle a }
-    ensures references { (text : List ℕ) (r : Reference) → spelled_reference text ≡ Some r → IsValidReference r }
+    ensures references { (text : List ℕ) (r : Reference)
+        → spelled_reference text ≡ Some r → IsValidReference r }
 {}
 
 /// The cells of an area are those that it covers, each once, in the order of cells.
@@ -65,7 +67,8 @@ pub fn deletion_undoes_insertion()
     ensures undone { (place count : ℕ) (r s : Reference)
         → reference_after_insertion place count r ≡ Some s
         → row_after_insertion place count r.area.last_row ≤ LAST_ROW
-        → (reference_after_deletion place count s ≡ Some r) ↔ (has_all_rows s.area ≡ has_all_rows r.area) }
+        → (reference_after_deletion place count s ≡ Some r)
+        ↔ (has_all_rows s.area ≡ has_all_rows r.area) }
 {}
 
 /// The opposite of a move that kept a reference gives it back, but for the order of ends at one
@@ -73,7 +76,8 @@ pub fn deletion_undoes_insertion()
 pub fn opposite_move_gives_back()
     ensures { (cols rows : ℤ) (r s : Reference) → IsRectangle r.area
         → moved_reference cols rows r ≡ Some s
-        → (t : Reference) × (moved_reference (neg_ℤ cols) (neg_ℤ rows) s ≡ Some t) × IsSameReference r t }
+        → (t : Reference)
+        × (moved_reference (neg_ℤ cols) (neg_ℤ rows) s ≡ Some t) × IsSameReference r t }
 {}
 
 /// Shifts and moves keep the ends of references in order and in the sheet, and how they were spelled.

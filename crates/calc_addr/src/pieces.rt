@@ -25,7 +25,8 @@ pub(crate) fn undollared(text: &[u8]) -> &[u8]
 
 /// The number that digits without a leading zero write, or `u32::MAX` where it is larger.
 fn number(text: &[u8]) -> Option<u32>
-    ensures { result ≡ if are_digits text.now then Some (min (digits_value 10 text.now) (2 ^ 32 - 1)) else None }
+    ensures { result
+        ≡ if are_digits text.now then Some (min (digits_value 10 text.now) (2 ^ 32 - 1)) else None }
 {
     if matches!(text, [] | [b'0', ..]) {
         return None;
@@ -44,7 +45,8 @@ fn number(text: &[u8]) -> Option<u32>
 
 /// The column that letters name, or `u32::MAX` where it is larger.
 fn column_number(text: &[u8]) -> Option<u32>
-    ensures { result ≡ if are_letters text.now then Some (min (column_number text.now) (2 ^ 32 - 1)) else None }
+    ensures { result
+        ≡ if are_letters text.now then Some (min (column_number text.now) (2 ^ 32 - 1)) else None }
 {
     if text.is_empty() {
         return None;
@@ -108,7 +110,9 @@ fn sheet_number(digits: &[u8]) -> Spelled<u8>
 }
 
 fn number_or_zero(text: &[u8]) -> Option<u32>
-    ensures { result ≡ if are_digits_or_zero text.now then Some (min (digits_value 10 text.now) (2 ^ 32 - 1)) else None }
+    ensures { result
+        ≡ if are_digits_or_zero text.now
+        then Some (min (digits_value 10 text.now) (2 ^ 32 - 1)) else None }
 {
     match text {
         [b'0'] => Some(0),

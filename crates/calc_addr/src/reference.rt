@@ -43,7 +43,8 @@ impl Model for Ref {
 
     ghost view = { λ r. record { area = r.area; span = r.span; marks = r.marks } };
 
-    ghost invariant = { λ r. IsReference (record { area = r.area; span = r.span; marks = r.marks }) };
+    ghost invariant = { λ r.
+        IsReference (record { area = r.area; span = r.span; marks = r.marks }) };
 
     ghost inverse = { λ r. record { area = r.area; span = r.span; marks = r.marks } };
 }

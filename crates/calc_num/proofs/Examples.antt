@@ -1,4 +1,4 @@
 -- Worked examples.
-mod Decimals
-mod Readings
-mod Prints
+mod DecimalExamples
+mod ReadingExamples
+mod PrintingExamples

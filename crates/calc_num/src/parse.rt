@@ -203,7 +203,8 @@ impl Partial {
     /// Takes in digits from left to right.
     fn push_all(self, digits: &[u8]) -> Partial
         ensures { (more : List ℕ) → list_all is_ascii_digit (digits.now ++ more) ≡ true
-            → worth result.size result.places more ≡ worth self.size self.places (digits.now ++ more) }
+            → worth result.size result.places more
+            ≡ worth self.size self.places (digits.now ++ more) }
     {
         let mut partial = self;
         for digit in digits {
@@ -271,7 +272,8 @@ fn long_size(whole: &[u8], fraction: &[u8], exponent: i128) -> u128
 fn zeros_behind(count: usize, exponent: i128) -> Option<i128>
     requires low { neg_ℤ (pos (10 ^ 20)) ≤ℤ exponent }
     requires high { exponent ≤ℤ pos (10 ^ 20) }
-    ensures { IfSome result (λ zeros. (pos count +ℤ zeros ≡ pos 9 +ℤ exponent) × (unsigned_abs zeros ≤ 28)) }
+    ensures { IfSome result (λ zeros. (pos count +ℤ zeros ≡ pos 9 +ℤ exponent)
+        × (unsigned_abs zeros ≤ 28)) }
 {
     let zeros = 9 + exponent - count as i128;
     if zeros < -28 || zeros > 28 {
@@ -283,8 +285,9 @@ fn zeros_behind(count: usize, exponent: i128) -> Option<i128>
 
 /// The number that digits on both sides of a point write together. None where a side has many digits.
 fn joined(whole: Digits, fraction: Digits) -> Option<u128>
-    ensures { IfSome result (λ number. (number < 10 ^ 37) × (number ≡ digits_number whole.entry.bytes.now
-        * 10 ^ length fraction.entry.bytes.now + digits_number fraction.entry.bytes.now)) }
+    ensures { IfSome result (λ number. (number < 10 ^ 37)
+        × (number ≡ digits_number whole.entry.bytes.now * 10 ^ length fraction.entry.bytes.now
+        + digits_number fraction.entry.bytes.now)) }
 {
     if whole.number >= MANY || fraction.number >= MANY || fraction.bytes.len() > 18 {
         return None;
@@ -298,7 +301,11 @@ fn joined_size(whole: Digits, fraction: Digits, exponent: i128) -> Option<u128>
     requires low { neg_ℤ (pos (10 ^ 20)) ≤ℤ exponent }
     requires high { exponent ≤ℤ pos (10 ^ 20) }
     ensures { IfSome result (λ size. size
-        ≡ size_of record { whole = whole.entry.bytes.now; fraction = fraction.entry.bytes.now; exponent = exponent }) }
+        ≡ size_of record {
+          whole = whole.entry.bytes.now;
+          fraction = fraction.entry.bytes.now;
+          exponent = exponent;
+        }) }
 {
     let number = joined(whole, fraction)?;
     let zeros = zeros_behind(fraction.bytes.len(), exponent)?;
@@ -315,7 +322,11 @@ fn scaled(whole: Digits, fraction: Digits, exponent: i128) -> u128
     requires low { neg_ℤ (pos (10 ^ 20)) ≤ℤ exponent }
     requires high { exponent ≤ℤ pos (10 ^ 20) }
     ensures { result
-        ≡ size_of record { whole = whole.entry.bytes.now; fraction = fraction.entry.bytes.now; exponent = exponent } }
+        ≡ size_of record {
+          whole = whole.entry.bytes.now;
+          fraction = fraction.entry.bytes.now;
+          exponent = exponent;
+        } }
 {
     match joined_size(whole, fraction, exponent) {
         Some(size) => size,

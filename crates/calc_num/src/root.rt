@@ -75,7 +75,8 @@ fn least_root(square: u128, near: u64) -> u64
 
 impl Num {
     /// The square root to nine places, which is never halfway between two. A negative number has none
-    /// and is `NotNum`; there is no other fault.
+    /// and is `NotNum`; there is no other fault. It begins at a float's root: how many steps are left
+    /// from there rests on how exact the processor's floats are, and the result doesn't.
     #[tactic(auto, using(crate::proofs::Arithmetic::Roots::sqrt_is_root, crate::proofs::Arithmetic::Roots::root_is_least))]
     pub fn sqrt(self) -> Result<Num, NumFault>
         ensures value { result ≡ sqrt self }

@@ -62,7 +62,8 @@ fn picked(way: Way, negative: bool, size: u128, unit: u128) -> u128
 /// What is left of a size after a division rounded down, where the signs are opposite or not.
 fn floor_rest(size: u128, divisor: u128, opposite: bool) -> u128
     requires { 0 < divisor }
-    ensures value { result ≡ (if opposite then (divisor - size % divisor) % divisor else size % divisor) }
+    ensures value { result
+        ≡ (if opposite then (divisor - size % divisor) % divisor else size % divisor) }
     ensures small { result < divisor }
 {
     let rest = size % divisor;

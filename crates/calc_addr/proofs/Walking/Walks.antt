@@ -2,7 +2,7 @@
 use Rattle.std.proofs.Common.{◌≡◌, ℕ, suc, ◌+◌, ◌-◌, ◌≤◌, ◌<◌, Bool, true, false, cond, nat_lt, List, [], ◌∷◌, ◌++◌, map, Option, Some, None, refl, sym, ap, subst, ◌∙◌, arith}
 use Rattle.std.proofs.lemmas.Bool.Decides.{nat_tests}
 use Rattle.std.specs.List.{flat_map, range_with_len}
-use Rattle.calc_addr.specs.Places.{Place, Rectangle, covers, places, places_from, place_after, corner, column_places, from_to, IsInArea, row_at, rows_of, rows_from, below_first}
+use Rattle.calc_addr.specs.Places.{Place, Rectangle, covers, places, places_from, place_after, corner, column_places, from_to, IsInArea}
 use Rattle.calc_addr.proofs.Walking.Places.{IsCovered, IsCovered-from}
 
 from_to-cons : (first last : ℕ) → first ≤ last → from_to first last ≡ first ∷ from_to (first + 1) last
@@ -61,16 +61,3 @@ module _ (a : Rectangle) where
 pub walk-step : (a : Rectangle) (here next : Option Place) (p : Place) (walk : List Place) → places_from a here ≡ walk → here ≡ Some p → IsInArea a here → next ≡ place_after a p → walk ≡ p ∷ places_from a next
 walk-step a here next p walk view is within e =
     sym view ∙ ap (places_from a) is ∙ places_from-step a p (subst (IsInArea a) is within) ∙ ap (λ o. p ∷ places_from a o) (sym e)
-
--- the rows from the first one on
-rows_of-step : (a : Rectangle) → a.first_row ≤ a.last_row → rows_of a ≡ row_at a a.first_row ∷ rows_from (below_first a)
-rows_of-step a h =
-    ap (map (row_at a)) (from_to-cons a.first_row a.last_row h)
-    ∙ elim (nat_lt a.first_row a.last_row) as (λ b. nat_lt a.first_row a.last_row ≡ b → row_at a a.first_row ∷ map (row_at a) (from_to (a.first_row + 1) a.last_row) ≡ row_at a a.first_row ∷ rows_from (cond b (Some (record a { first_row = a.first_row + 1 })) None)) [
-      | true ↦ λ more. refl
-      | false ↦ λ last. ap (λ rest. row_at a a.first_row ∷ map (row_at a) rest) (from_to-nil (a.first_row + 1) a.last_row (omega (arith, not_lt a.first_row a.last_row last)))
-    ] refl
-
-pub rows-step : (here rest : Option Rectangle) (a row : Rectangle) (walk : List Rectangle) → rows_from here ≡ walk → here ≡ Some a → a.first_row ≤ a.last_row → row ≡ row_at a a.first_row → rest ≡ below_first a → walk ≡ row ∷ rows_from rest
-rows-step here rest a row walk view is in_order first below =
-    sym view ∙ ap rows_from is ∙ rows_of-step a in_order ∙ ap (λ r. r ∷ rows_from (below_first a)) (sym first) ∙ ap (λ o. row ∷ rows_from o) (sym below)
