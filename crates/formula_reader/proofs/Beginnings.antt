@@ -1,5 +1,5 @@
--- What the texts of operands, primaries and rows begin with.
-use Rattle.std.proofs.Common.{◌≡◌, ℕ, Bool, true, false, ◌&&◌, ◌||◌, nat_le, List, [], ◌∷◌, ◌++◌, length, drop, Some, refl, sym, ap, ◌∙◌, arith}
+-- What the texts of operands, primaries and levels begin with.
+use Rattle.std.proofs.Common.{◌≡◌, ℕ, Bool, true, false, ◌&&◌, ◌||◌, nat_le, List, [], ◌∷◌, ◌++◌, length, drop, Some, None, refl, sym, ap, ◌∙◌, arith}
 use Rattle.std.specs.Prelude.{◌==◌}
 use Rattle.std.specs.Char.{is_ascii_digit}
 use Rattle.std.specs.List.{list_all}
@@ -16,20 +16,25 @@ use Rattle.calc_model.specs.declared.fault.Fault.{Fault}
 use Rattle.calc_model.specs.declared.fault.Fault.TheVariants.{NA, DivZero, BadValue, BadRef, BadName, BadNum, Null, Over, Syntax, Circular}
 use Rattle.calc_model.specs.declared.tree.Tree.{Tree}
 use Rattle.formula_reader.specs.Leaves.{number_tree}
-use Rattle.formula_reader.specs.Rows.{is_sign, is_sign_or_blank}
-use Rattle.formula_reader.proofs.Fronts.{begins, begins-append, begins_other}
+use Rattle.formula_reader.specs.Signs.{sign_at}
+use Rattle.byte_cuts.specs.Fronts.{begins}
+use Rattle.byte_cuts.proofs.Fronts.{begins-append}
+use Rattle.formula_reader.proofs.Fronts.{begins_other}
 use Rattle.formula_reader.proofs.NumberFronts.{no_sign_behind, none_or, read_unsigned}
 use Rattle.formula_reader.proofs.Identifiers.{name_is_identifier}
 
 abbrev pub is_number_start : ℕ → Bool
 is_number_start byte = is_ascii_digit byte || (byte == 46)
 
--- what a primary begins with, and what a row does
+-- what a primary begins with, and what a text of a level does
 abbrev pub is_start : ℕ → Bool
 is_start byte = (byte == 40) || (byte == 34) || (byte == 91) || (byte == 35) || is_number_start byte || begins_identifier byte
 
-abbrev pub is_row_start : ℕ → Bool
-is_row_start byte = is_start byte || is_sign byte
+abbrev pub is_sign : ℕ → Bool
+is_sign byte = (byte == 43) || (byte == 45)
+
+abbrev pub is_level_start : ℕ → Bool
+is_level_start byte = is_start byte || is_sign byte
 
 digitless : (byte : ℕ) (text : List ℕ) → is_ascii_digit byte ≡ false → (byte == 46) ≡ false → (length (front_digits (byte ∷ text) ++ fraction_digits (behind_digits (byte ∷ text))) == 0) ≡ true
 digitless byte text digit point =
@@ -109,33 +114,37 @@ primary_begins (operand {text = front} blanks o all) = begins-append is_start fr
 primary_begins (parenthesis first last a r b) = refl
 primary_begins (call word blanks first last i a b args c) = begins-append is_start word _ (begins_more begins_identifier is_start word identifier_start (identifier_begins word i))
 
-start_row : (byte : ℕ) → is_start byte ≡ true → is_row_start byte ≡ true
-start_row byte h = or_left (is_start byte) (is_sign byte) h
+start_level : (byte : ℕ) → is_start byte ≡ true → is_level_start byte ≡ true
+start_level byte h = or_left (is_start byte) (is_sign byte) h
 
-pub row_begins : {k : ℕ} {text : List ℕ} {x : Tree} → IsLevel k text x → begins is_row_start text ≡ true
-row_begins (primary {text = front} p) = begins_more is_start is_row_start front start_row (primary_begins p)
-row_begins (plus blanks all r) = refl
-row_begins (minus blanks all r) = refl
-row_begins (percent {text = front} blanks r all) = begins-append is_row_start front (37 ∷ blanks) (row_begins r)
-row_begins (looser r) = row_begins r
-row_begins (operated {left = front} {right = back} op blanks l here all r) = begins-append is_row_start front (op_text op ++ (blanks ++ back)) (row_begins l)
+pub level_begins : {k : ℕ} {text : List ℕ} {x : Tree} → IsLevel k text x → begins is_level_start text ≡ true
+level_begins (primary {text = front} p) = begins_more is_start is_level_start front start_level (primary_begins p)
+level_begins (plus blanks all r) = refl
+level_begins (minus blanks all r) = refl
+level_begins (percent {text = front} blanks r all) = begins-append is_level_start front (37 ∷ blanks) (level_begins r)
+level_begins (looser r) = level_begins r
+level_begins (operated {left = front} {right = back} op blanks l here all r) = begins-append is_level_start front (op_text op ++ (blanks ++ back)) (level_begins l)
 
-pub some_begins : {text : List ℕ} {args : List Tree} → AreSomeArgs text args → begins is_row_start text ≡ true
-some_begins (one r) = row_begins r
-some_begins (more {front = front} {text = back} blanks args all r) = begins-append is_row_start front (59 ∷ (blanks ++ back)) (some_begins args)
+pub some_begins : {text : List ℕ} {args : List Tree} → AreSomeArgs text args → begins is_level_start text ≡ true
+some_begins (one r) = level_begins r
+some_begins (more {front = front} {text = back} blanks args all r) = begins-append is_level_start front (59 ∷ (blanks ++ back)) (some_begins args)
 
--- what no row begins with
-pub row_no_blank : (byte : ℕ) → is_row_start byte ≡ true → is_blank byte ≡ false
-row_no_blank byte h = grind (arith, nat_tests)
+-- what no text of a level begins with
+pub level_no_blank : (byte : ℕ) → is_level_start byte ≡ true → is_blank byte ≡ false
+level_no_blank byte h = grind (arith, nat_tests)
 
-start_no_front : (byte : ℕ) → is_start byte ≡ true → is_sign_or_blank byte ≡ false
-start_no_front byte h = grind (arith, nat_tests)
+pub level_no_blanks : (text rest : List ℕ) → begins is_level_start text ≡ true → begins is_blank (text ++ rest) ≡ false
+level_no_blanks text rest h = begins_other is_blank is_level_start (text ++ rest) level_no_blank (begins-append is_level_start text rest h)
 
-pub row_no_blanks : (text rest : List ℕ) → begins is_row_start text ≡ true → begins is_blank (text ++ rest) ≡ false
-row_no_blanks text rest h = begins_other is_blank is_row_start (text ++ rest) row_no_blank (begins-append is_row_start text rest h)
+start_no_sign : (byte : ℕ) → is_start byte ≡ true → ((byte == 43) ≡ false) × ((byte == 45) ≡ false)
+start_no_sign byte h = (grind (arith, nat_tests), grind (arith, nat_tests))
 
-pub primary_no_signs : (text rest : List ℕ) → begins is_start text ≡ true → begins is_sign_or_blank (text ++ rest) ≡ false
-primary_no_signs text rest h = begins_other is_sign_or_blank is_start (text ++ rest) start_no_front (begins-append is_start text rest h)
+-- no sign stands in front of a primary
+pub primary_no_sign : (text rest : List ℕ) → begins is_start text ≡ true → sign_at (text ++ rest) ≡ None
+primary_no_sign [] rest h = cc
+primary_no_sign (byte ∷ text) rest h =
+    let other = start_no_sign byte h in
+    cond-false (byte == 43) _ _ other.0 ∙ cond-false (byte == 45) _ _ other.1
 
 -- blanks and a text, of which neither begins so
 pub behind_blanks : (p : ℕ → Bool) (blanks text : List ℕ) → ((byte : ℕ) → is_blank byte ≡ true → p byte ≡ false) → are_blanks blanks ≡ true → begins p text ≡ false → begins p (blanks ++ text) ≡ false

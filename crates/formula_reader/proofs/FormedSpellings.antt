@@ -23,18 +23,18 @@ use Rattle.calc_model.specs.declared.tree.Tree.{Tree}
 use Rattle.calc_model.specs.declared.tree.Tree.TheVariants as t
 use Rattle.formula_reader.proofs.Capitals.{capitals_identifier, no_small}
 
--- formed, and at that row or a tighter one
-record At (row : ℕ) (x : Tree) : Type 0 where
-  bound : (form_of x).level ≤ row
+-- formed, and at that level or a tighter one
+record At (level : ℕ) (x : Tree) : Type 0 where
+  bound : (form_of x).level ≤ level
   formed : (form_of x).formed ≡ true
 
-test_at : (row : ℕ) (x : Tree) → At row x → stands_within row (form_of x) ≡ true
-test_at row x h = and_from (form_of x).formed (nat_le (form_of x).level row) h.formed (le-leb (form_of x).level row h.bound)
+test_at : (level : ℕ) (x : Tree) → At level x → stands_within level (form_of x) ≡ true
+test_at level x h = and_from (form_of x).formed (nat_le (form_of x).level level) h.formed (le-leb (form_of x).level level h.bound)
 
 -- a node by its form
-made : (row : ℕ) (x : Tree) (form : Form) → form_of x ≡ form → form.level ≤ row → form.formed ≡ true → At row x
-made row x form e bound formed = record {
-  bound = subst (λ n. n ≤ row) (sym (ap (λ (f : Form). f.level) e)) bound;
+made : (level : ℕ) (x : Tree) (form : Form) → form_of x ≡ form → form.level ≤ level → form.formed ≡ true → At level x
+made level x form e bound formed = record {
+  bound = subst (λ n. n ≤ level) (sym (ap (λ (f : Form). f.level) e)) bound;
   formed = ap (λ (f : Form). f.formed) e ∙ formed;
 }
 
@@ -81,24 +81,24 @@ all_push args x all h =
     ∙ and_from (all_at args) (list_all (stands_within 6) (form_of x ∷ [])) all (and_from (stands_within 6 (form_of x)) true (test_at 6 x h) refl)
 
 mutual
-  row_formed : {k : ℕ} {text : List ℕ} {x : Tree} → IsLevel k text x → At k x
-  row_formed (primary p) = primary_formed p
-  row_formed (plus {x = x} blanks all r) =
-      made 0 (t.Plus x) (record { level = 0; formed = stands_within 0 (form_of x) }) (folds.at-Plus Form form_step x) (omega arith) (test_at 0 x (row_formed r))
-  row_formed (minus {x = x} blanks all r) =
-      made 0 (t.Minus x) (record { level = 0; formed = stands_within 0 (form_of x) }) (folds.at-Minus Form form_step x) (omega arith) (test_at 0 x (row_formed r))
-  row_formed (percent {x = x} blanks r all) =
-      made 1 (t.Percent x) (record { level = 1; formed = stands_within 1 (form_of x) }) (folds.at-Percent Form form_step x) (omega arith) (test_at 1 x (row_formed r))
-  row_formed (looser {x = x} r) =
-      let below = row_formed r in
+  level_formed : {k : ℕ} {text : List ℕ} {x : Tree} → IsLevel k text x → At k x
+  level_formed (primary p) = primary_formed p
+  level_formed (plus {x = x} blanks all r) =
+      made 0 (t.Plus x) (record { level = 0; formed = stands_within 0 (form_of x) }) (folds.at-Plus Form form_step x) (omega arith) (test_at 0 x (level_formed r))
+  level_formed (minus {x = x} blanks all r) =
+      made 0 (t.Minus x) (record { level = 0; formed = stands_within 0 (form_of x) }) (folds.at-Minus Form form_step x) (omega arith) (test_at 0 x (level_formed r))
+  level_formed (percent {x = x} blanks r all) =
+      made 1 (t.Percent x) (record { level = 1; formed = stands_within 1 (form_of x) }) (folds.at-Percent Form form_step x) (omega arith) (test_at 1 x (level_formed r))
+  level_formed (looser {x = x} r) =
+      let below = level_formed r in
       let bound = below.bound in
       record { bound = omega arith; formed = below.formed }
-  row_formed (operated {level = row} {x = x} {y = y} op blanks l here all r) =
-      let left = row_formed l in
-      let right = row_formed r in
+  level_formed (operated {level = level} {x = x} {y = y} op blanks l here all r) =
+      let left = level_formed l in
+      let right = level_formed r in
       let bound = left.bound in
       let bound_too = right.bound in
-      made (suc row) (t.Binary op x y) (record { level = op_level op; formed = stands_within (op_level op) (form_of x) && stands_within (op_level op - 1) (form_of y) }) (folds.at-Binary Form form_step op x y) (omega arith)
+      made (suc level) (t.Binary op x y) (record { level = op_level op; formed = stands_within (op_level op) (form_of x) && stands_within (op_level op - 1) (form_of y) }) (folds.at-Binary Form form_step op x y) (omega arith)
       (and_from (stands_within (op_level op) (form_of x)) (stands_within (op_level op - 1) (form_of y))
       (test_at (op_level op) x (record { bound = omega arith; formed = left.formed }))
       (test_at (op_level op - 1) y (record { bound = omega arith; formed = right.formed })))
@@ -106,7 +106,7 @@ mutual
   primary_formed : {text : List ℕ} {x : Tree} → IsPrimary text x → At 0 x
   primary_formed (operand blanks o all) = operand_formed o
   primary_formed (parenthesis {x = x} first last a r b) =
-      made 0 (t.Paren x) (record { level = 0; formed = stands_within 6 (form_of x) }) (folds.at-Paren Form form_step x) (omega arith) (test_at 6 x (row_formed r))
+      made 0 (t.Paren x) (record { level = 0; formed = stands_within 6 (form_of x) }) (folds.at-Paren Form form_step x) (omega arith) (test_at 6 x (level_formed r))
   primary_formed (call {args = args} word blanks first last h a b p c) =
       let word_up = in_capitals word in
       made 0 (t.Call word_up args) (record { level = 0; formed = is_identifier word_up && has_no_small_letter word_up && all_at args }) (folds.at-Call Form form_step word_up args) (omega arith)
@@ -117,8 +117,8 @@ mutual
   args_formed (some p) = some_formed p
 
   some_formed : {text : List ℕ} {args : List Tree} → AreSomeArgs text args → all_at args ≡ true
-  some_formed (one {x = x} r) = and_from (stands_within 6 (form_of x)) true (test_at 6 x (row_formed r)) refl
-  some_formed (more {args = args} {x = x} blanks p all r) = all_push args x (some_formed p) (row_formed r)
+  some_formed (one {x = x} r) = and_from (stands_within 6 (form_of x)) true (test_at 6 x (level_formed r)) refl
+  some_formed (more {args = args} {x = x} blanks p all r) = all_push args x (some_formed p) (level_formed r)
 
 -- a formula's tree is formed
 well_formed : (x : Tree) → (form_of x).formed ≡ true → is_well_formed x ≡ true
@@ -126,7 +126,7 @@ unfolding is_well_formed
 well_formed x h = h
 
 pub spelled_well_formed : (text : List ℕ) (tree : Tree) → Spells text tree → is_well_formed tree ≡ true
-spelled_well_formed text tree s = well_formed tree (row_formed s.spelled).formed
+spelled_well_formed text tree s = well_formed tree (level_formed s.spelled).formed
 
 pub spelled_formed : (text : List ℕ) (tree : Tree) → Spells text tree → InLimits text → is_formed tree ≡ true
 spelled_formed text tree s limits =

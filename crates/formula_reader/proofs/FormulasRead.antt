@@ -11,10 +11,12 @@ use Rattle.calc_model.specs.Tokens.{is_blank}
 use Rattle.calc_model.specs.declared.tree.Tree.{Tree}
 use Rattle.formula_reader.specs.Unread.{◌>>=◌}
 use Rattle.formula_reader.specs.Reading.{behind_front, comparison_within, formula_by, formula_of, formula_within, whole, without}
-use Rattle.formula_reader.specs.Rows.{comparison_at}
-use Rattle.formula_reader.proofs.Beginnings.{behind_blanks, is_row_start, row_begins, row_no_blank}
-use Rattle.formula_reader.proofs.Fronts.{at, begins, begins_other, behind-all}
-use Rattle.formula_reader.proofs.SpellingsRead.{comparison_reads, row_read}
+use Rattle.formula_reader.specs.Operands.{inside_at, operands_at}
+use Rattle.formula_reader.proofs.Beginnings.{behind_blanks, is_level_start, level_begins, level_no_blank}
+use Rattle.byte_cuts.specs.Fronts.{begins}
+use Rattle.byte_cuts.proofs.Fronts.{behind-all}
+use Rattle.formula_reader.proofs.Fronts.{at, begins_other}
+use Rattle.formula_reader.proofs.SpellingsRead.{claim_reads, level_read}
 use Rattle.formula_reader.proofs.TreeCounts.{open_of, parameters_of, tokens_of}
 
 abbrev is_equals : ℕ → Bool
@@ -47,25 +49,25 @@ limits_of x h =
       parameters = leb-true (parameters_of x) 30 parts.1;
     }
 
-row_no_equals : (byte : ℕ) → is_row_start byte ≡ true → is_equals byte ≡ false
-row_no_equals byte h = grind (arith, nat_tests)
+level_no_equals : (byte : ℕ) → is_level_start byte ≡ true → is_equals byte ≡ false
+level_no_equals byte h = grind (arith, nat_tests)
 
 blank_no_equals : (byte : ℕ) → is_blank byte ≡ true → is_equals byte ≡ false
 blank_no_equals byte h = grind (arith, nat_tests)
 
 -- a text that spells a formula, within any limits that are wide enough
-within_read : (text : List ℕ) (tree : Tree) (others depth tokens : ℕ) → Spells text tree → tokens_of tree ≤ tokens → open_of tree ≤ depth → parameters_of tree ≤ suc others → formula_within others (suc depth) tokens text ≡ Some tree
+within_read : (text : List ℕ) (tree : Tree) (others depth tokens : ℕ) → Spells text tree → tokens_of tree ≤ tokens → open_of tree ≤ depth → parameters_of tree ≤ suc others → formula_within others depth tokens text ≡ Some tree
 within_read text tree others depth tokens s some opens parameters =
     let comparison = s.comparison in
-    let starts = row_begins s.spelled in
+    let starts = level_begins s.spelled in
     let m = tokens - tokens_of tree in
     let all : tokens ≡ tokens_of tree + m = omega arith in
-    let ends = behind_blanks is_equals s.blanks comparison blank_no_equals s.are_blank (begins_other is_equals is_row_start comparison row_no_equals starts) in
-    ap (λ t. behind_front t >>= comparison_within others (suc depth) tokens) s.joined
-    ∙ ap (λ o. o >>= comparison_within others (suc depth) tokens) (front_passed (s.blanks ++ comparison) s.is_front ends)
-    ∙ ap (λ t. comparison_at others (suc depth) (at t tokens) >>= whole) (behind-all is_blank s.blanks comparison s.are_blank (begins_other is_blank is_row_start comparison row_no_blank starts) ∙ sym (append-nil comparison))
-    ∙ ap (λ n. comparison_at others (suc depth) (at (comparison ++ []) n) >>= whole) all
-    ∙ ap (λ o. o >>= whole) (comparison_reads others depth comparison tree (row_read s.spelled others depth (record { opens = opens; parameters = parameters })) [] m refl (lit< tt))
+    let ends = behind_blanks is_equals s.blanks comparison blank_no_equals s.are_blank (begins_other is_equals is_level_start comparison level_no_equals starts) in
+    ap (λ t. behind_front t >>= comparison_within others depth tokens) s.joined
+    ∙ ap (λ o. o >>= comparison_within others depth tokens) (front_passed (s.blanks ++ comparison) s.is_front ends)
+    ∙ ap (λ t. operands_at (inside_at others depth) 6 (at t tokens) >>= whole) (behind-all is_blank s.blanks comparison s.are_blank (begins_other is_blank is_level_start comparison level_no_blank starts) ∙ sym (append-nil comparison))
+    ∙ ap (λ n. operands_at (inside_at others depth) 6 (at (comparison ++ []) n) >>= whole) all
+    ∙ ap (λ o. o >>= whole) (claim_reads (inside_at others depth) 6 6 comparison tree (level_read s.spelled others depth (record { opens = opens; parameters = parameters })) [] m (lit< tt) refl (lit< tt))
 
 pub formula_read : (text : List ℕ) (tree : Tree) → Spells text tree → InLimits text → formula_of text ≡ Some tree
 unfolding formula_of

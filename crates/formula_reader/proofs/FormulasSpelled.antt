@@ -10,14 +10,14 @@ use Rattle.calc_model.specs.Grammar.{IsFront, Spells, doubled, long, long_double
 use Rattle.calc_model.specs.Limits.{InLimits, is_in_limits}
 use Rattle.calc_model.specs.Tokens.{is_blank}
 use Rattle.calc_model.specs.declared.tree.Tree.{Tree}
-use Rattle.formula_reader.specs.Unread.{◌>>=◌, Unread, is_at, skip}
+use Rattle.formula_reader.specs.Unread.{◌>>=◌, Unread, next_is, skip}
 use Rattle.formula_reader.specs.Reading.{behind_equals, behind_front, comparison_within, formula_by, formula_of, formula_within, whole, without}
-use Rattle.formula_reader.specs.Rows.{comparison_at}
+use Rattle.formula_reader.specs.Operands.{inside_at, operands_at}
 use Rattle.formula_reader.proofs.FormulasRead.{one_tree}
 use Rattle.formula_reader.proofs.Fronts.{at}
 use Rattle.formula_reader.proofs.NumberFronts.{empty_from, some_or}
-use Rattle.formula_reader.proofs.RowsSpelled.{comparison_sound}
-use Rattle.formula_reader.proofs.Steps.{behind_stops, bind_some, front_and_behind, front_passes}
+use Rattle.formula_reader.proofs.LevelsSpelled.{inside_sound}
+use Rattle.formula_reader.proofs.Steps.{bind_some, front_and_behind, front_passes}
 use Rattle.formula_reader.proofs.TreeCounts.{open_of, parameters_of, tokens_of}
 
 -- the signs of equality in front
@@ -25,18 +25,18 @@ record Equals (text rest : List ℕ) : Type 0 where
   second : Bool
   joined : text ≡ cond second (61 ∷ 61 ∷ rest) (61 ∷ rest)
 
-first_at : (text : List ℕ) → is_at 61 text ≡ true → text ≡ 61 ∷ drop 1 text
+first_at : (text : List ℕ) → next_is 61 text ≡ true → text ≡ 61 ∷ drop 1 text
 first_at [] h = cc
 first_at (byte ∷ text) h = ap (λ b. b ∷ text) (eqb-true byte 61 h)
 
-equals_by : (text rest : List ℕ) (b : Bool) → text ≡ 61 ∷ drop 1 text → is_at 61 (drop 1 text) ≡ b → cond b (drop 1 (drop 1 text)) (drop 1 text) ≡ rest → Equals text rest
+equals_by : (text rest : List ℕ) (b : Bool) → text ≡ 61 ∷ drop 1 text → next_is 61 (drop 1 text) ≡ b → cond b (drop 1 (drop 1 text)) (drop 1 text) ≡ rest → Equals text rest
 equals_by text rest true first e h = record { second = true; joined = first ∙ ap (λ b. 61 ∷ b) (first_at (drop 1 text) e ∙ ap (λ b. 61 ∷ b) h) }
 equals_by text rest false first e h = record { second = false; joined = first ∙ ap (λ b. 61 ∷ b) h }
 
 equals_say : (text rest : List ℕ) → behind_equals text ≡ Some rest → Equals text rest
 equals_say text rest h =
-    let some = some_or (is_at 61 text) (Some (without 61 (drop 1 text))) rest h in
-    equals_by text rest (is_at 61 (drop 1 text)) (first_at text some.0) refl (same_Some (without 61 (drop 1 text)) rest some.1)
+    let some = some_or (next_is 61 text) (Some (without 61 (drop 1 text))) rest h in
+    equals_by text rest (next_is 61 (drop 1 text)) (first_at text some.0) refl (same_Some (without 61 (drop 1 text)) rest some.1)
 
 record Front (text rest : List ℕ) : Type 0 where
   front : List ℕ
@@ -71,11 +71,11 @@ in_limits x tokens opens parameters =
     (and_from (nat_le (tokens_of x) 1024) (nat_le (open_of x) 64) (le-leb (tokens_of x) 1024 tokens) (le-leb (open_of x) 64 opens))
     (le-leb (parameters_of x) 30 parameters)
 
-by_length : (text : List ℕ) (tree : Tree) (b : Bool) → formula_by b text ≡ Some tree → (b ≡ false) × (formula_within 29 65 1024 text ≡ Some tree)
+by_length : (text : List ℕ) (tree : Tree) (b : Bool) → formula_by b text ≡ Some tree → (b ≡ false) × (formula_within 29 64 1024 text ≡ Some tree)
 by_length text tree true h = cc
 by_length text tree false h = (refl, h)
 
-parts : (text : List ℕ) (tree : Tree) → formula_of text ≡ Some tree → (length text ≤ 8192) × (formula_within 29 65 1024 text ≡ Some tree)
+parts : (text : List ℕ) (tree : Tree) → formula_of text ≡ Some tree → (length text ≤ 8192) × (formula_within 29 64 1024 text ≡ Some tree)
 unfolding formula_of
 parts text tree h =
     let both = by_length text tree (nat_lt 8192 (length text)) h in
@@ -84,13 +84,13 @@ parts text tree h =
 counted : (text : List ℕ) (tree : Tree) → formula_of text ≡ Some tree → (length text ≤ 8192) × Spells text tree × (is_in_limits tree ≡ true)
 counted text tree h =
     let both = parts text tree h in
-    let first = bind_some (behind_front text) (comparison_within 29 65 1024) tree both.1 in
+    let first = bind_some (behind_front text) (comparison_within 29 64 1024) tree both.1 in
     let bytes = first.0 in
     let front = front_says text bytes first.1 in
     let start : Unread = at (skip bytes) 1024 in
-    let read = bind_some (comparison_at 29 65 start) whole tree first.2 in
+    let read = bind_some (operands_at (inside_at 29 64) 6 start) whole tree first.2 in
     let x = read.0.0 in
-    let s = comparison_sound 29 65 start read.0 (behind_stops is_blank bytes) read.1 in
+    let s = inside_sound 29 64 start read.0 read.1 in
     let last = some_or (length read.0.1.bytes == 0) (Some x) tree read.2 in
     let same = same_Some x tree last.1 in
     let ended : skip bytes ≡ s.text = s.joined ∙ ap (λ b. s.text ++ b) (empty_from read.0.1.bytes last.0) ∙ append-nil s.text in
@@ -102,7 +102,7 @@ counted text tree h =
       comparison = s.text;
       is_front = front.is_front;
       are_blank = front_passes is_blank bytes;
-      spelled = s.is_row;
+      spelled = s.is_level;
       joined = front.joined ∙ ap (λ b. front.front ++ b) (front_and_behind is_blank bytes ∙ ap (λ b. take_while is_blank bytes ++ b) ended);
     } in
     subst (λ y. (length text ≤ 8192) × Spells text y × (is_in_limits y ≡ true)) same

@@ -5,40 +5,15 @@ use Rattle.std.specs.List.{list_all, prefix_len, take_while}
 use Rattle.std.proofs.lemmas.Bool.{and_parts, cond-false, cond-true, ne_eqb}
 use Rattle.std.proofs.lemmas.Bool.Decides.{nat_tests}
 use Rattle.std.proofs.lemmas.List.{drop_at, take_at}
+use Rattle.byte_cuts.specs.Fronts.{begins}
+use Rattle.byte_cuts.proofs.Fronts.{begins_less, behind-all}
 use Rattle.calc_model.specs.Tokens.{are_blanks, is_blank}
-use Rattle.formula_reader.specs.Unread.{Unread, behind, past, skip}
-
--- the text begins with a byte that passes the test
-abbrev pub begins : (ℕ → Bool) → List ℕ → Bool
-begins test [] = false
-begins test (byte ∷ rest) = test byte
-
-pub begins-append : (test : ℕ → Bool) (front rest : List ℕ) → begins test front ≡ true → begins test (front ++ rest) ≡ true
-begins-append test [] rest h = cc
-begins-append test (byte ∷ front) rest h = h
+use Rattle.formula_reader.specs.Unread.{Unread, past, skip}
 
 -- no byte passes both tests
 pub begins_other : (p q : ℕ → Bool) (text : List ℕ) → ((byte : ℕ) → q byte ≡ true → p byte ≡ false) → begins q text ≡ true → begins p text ≡ false
 begins_other p q [] apart h = refl
 begins_other p q (byte ∷ rest) apart h = apart byte h
-
--- each byte that passes one test passes the other
-pub begins_less : (p q : ℕ → Bool) (text : List ℕ) → ((byte : ℕ) → q byte ≡ false → p byte ≡ false) → begins q text ≡ false → begins p text ≡ false
-begins_less p q [] less h = refl
-begins_less p q (byte ∷ rest) less h = less byte h
-
-pub prefix_len-all : (test : ℕ → Bool) (front rest : List ℕ) → list_all test front ≡ true → begins test rest ≡ false → prefix_len test (front ++ rest) ≡ length front
-prefix_len-all test [] [] all none = refl
-prefix_len-all test [] (byte ∷ rest) all none = cond-false (test byte) _ _ none
-prefix_len-all test (byte ∷ front) rest all none =
-    let parts = and_parts (test byte) (list_all test front) all in
-    cond-true (test byte) _ _ parts.0 ∙ omega (arith, prefix_len-all test front rest parts.1 none)
-
-pub behind-all : (test : ℕ → Bool) (front rest : List ℕ) → list_all test front ≡ true → begins test rest ≡ false → behind test (front ++ rest) ≡ rest
-behind-all test front rest all none = drop_at front rest (prefix_len test (front ++ rest)) (sym (prefix_len-all test front rest all none))
-
-pub take_while-all : (test : ℕ → Bool) (front rest : List ℕ) → list_all test front ≡ true → begins test rest ≡ false → take_while test (front ++ rest) ≡ front
-take_while-all test front rest all none = take_at front rest (prefix_len test (front ++ rest)) (sym (prefix_len-all test front rest all none))
 
 abbrev pub at : List ℕ → ℕ → Unread
 at bytes tokens = record { bytes = bytes; tokens = tokens }

@@ -12,7 +12,9 @@ use Rattle.calc_model.specs.Grammar.{is_signed}
 use Rattle.calc_model.specs.declared.tree.Tree.{Tree}
 use Rattle.formula_reader.specs.Leaves.{number_at, number_tree}
 use Rattle.formula_reader.specs.Unread.{beside}
-use Rattle.formula_reader.proofs.Fronts.{Stops, begins, begins_less, is_no_stop}
+use Rattle.byte_cuts.specs.Fronts.{begins}
+use Rattle.byte_cuts.proofs.Fronts.{begins_less}
+use Rattle.formula_reader.proofs.Fronts.{Stops, is_no_stop}
 
 -- a byte that a number may go on with, but for a sign
 abbrev is_in_number : ℕ → Bool

@@ -1,16 +1,18 @@
--- What is read as an operator is an operator's text.
-use Rattle.std.proofs.Common.{◌≡◌, ℕ, Bool, true, false, List, [], ◌∷◌, ◌++◌, Option, Some, None, refl, sym, ap, ◌∙◌}
+-- What is read as an operator is an operator's text, and where none is read, none of the level stands there.
+use Rattle.std.proofs.Common.{◌≡◌, ◌≤◌, ◌<◌, ℕ, nat_le, cond, Bool, true, false, List, [], ◌∷◌, ◌++◌, Option, Some, None, refl, sym, ap, ◌∙◌, subst, arith}
 use Rattle.std.specs.Prelude.{◌==◌}
-use Rattle.std.proofs.lemmas.Bool.{cond-false, cond-true, eqb-true}
-use Rattle.std.proofs.lemmas.Option.{same_Some}
+use Rattle.std.proofs.lemmas.Bool.{cond-false, cond-true, eqb-true, leb-false, leb-true}
+use Rattle.std.proofs.lemmas.Option.{same_Some, some_pair_parts}
+use Rattle.calc_model.proofs.GrammarLevels.{level_some}
 use Rattle.calc_model.specs.Grammar.{op_text}
 use Rattle.calc_model.specs.declared.tree.Op.TheVariants.{Pow, Mul, Div, Add, Sub, Cat, Eq}
 use Rattle.formula_reader.specs.declared.operators.Operator.{Operator}
 use Rattle.formula_reader.specs.declared.operators.Operator.TheVariants as o
-use Rattle.formula_reader.specs.Unread.{beside}
-use Rattle.formula_reader.specs.Operators.{greater_at, less_at, of_row, operator_at, row_of, single_operator}
+use Rattle.formula_reader.specs.Unread.{Unread, beside, past}
+use Rattle.formula_reader.specs.Operators.{beside_some, greater_at, less_at, level_of, operator_at, operator_taken, single_operator, taken_by, up_to}
 use Rattle.formula_reader.proofs.NumberFronts.{some_or}
-use Rattle.formula_reader.proofs.Steps.{either, map_some}
+use Rattle.formula_reader.proofs.OperatorTexts.{level_behind, level_found}
+use Rattle.formula_reader.proofs.Steps.{Past, either, map_some, past_says}
 
 abbrev pub operator_text : Operator → List ℕ
 operator_text o.Percent = 37 ∷ []
@@ -64,9 +66,65 @@ operator_says (byte ∷ rest) found h =
     let made = map_some (beside rest) (single_operator byte) found j in
     ap (λ front. front ++ rest) (single_says byte made.0 made.1) ∙ ap parts_text made.2) k) h
 
--- an operator of the row
-pub of_row_says : (row : ℕ) (o : Option (Operator × List ℕ)) (found : Operator × List ℕ) → of_row row o ≡ Some found → (o ≡ Some found) × (row_of found.0 ≡ row)
-of_row_says row None found h = cc
-of_row_says row (Some first) found h =
-    let parts = some_or (row_of first.0 == row) (Some first) found h in
-    (parts.1, ap (λ (f : Operator × List ℕ). row_of f.0) (sym (same_Some first found parts.1)) ∙ eqb-true (row_of first.0) row parts.0)
+-- what the taking of an operator says
+pub record Taken (level : ℕ) (unread : Unread) (operator : Operator) (after : Unread) : Type 0 where
+  pub rest : List ℕ
+  pub joined : unread.bytes ≡ operator_text operator ++ rest
+  pub passed : Past unread.tokens rest after
+  pub within : level_of operator ≤ level
+  pub here : level_behind unread.bytes ≡ level_of operator
+
+taken_found : (level : ℕ) (unread after : Unread) (operator : Operator) (found : Operator × List ℕ) (b : Bool) → operator_at unread.bytes ≡ Some found → nat_le (level_of found.0) level ≡ b → taken_by unread (cond b (Some found) None) ≡ Some (Some operator, after) → Taken level unread operator after
+taken_found level unread after operator found false e less h = let none = (some_pair_parts None (Some operator) unread after h).0 in cc
+taken_found level unread after operator found true e less h =
+    let made = map_some (beside_some found.0) (past unread.tokens found.1) (Some operator, after) h in
+    let same : found.0 ≡ operator = same_Some found.0 operator (ap (λ (r : Option Operator × Unread). r.0) made.2) in
+    let last : made.0 ≡ after = ap (λ (r : Option Operator × Unread). r.1) made.2 in
+    record {
+      rest = found.1;
+      joined = operator_says unread.bytes found e ∙ ap (λ f. operator_text f ++ found.1) same;
+      passed = subst (Past unread.tokens found.1) last (past_says unread.tokens found.1 made.0 made.1);
+      within = subst (λ f. level_of f ≤ level) same (leb-true (level_of found.0) level less);
+      here = ap level_found e ∙ ap level_of same;
+    }
+
+taken_some : (level : ℕ) (unread after : Unread) (operator : Operator) (found : Option (Operator × List ℕ)) → operator_at unread.bytes ≡ found → taken_by unread (up_to level found) ≡ Some (Some operator, after) → Taken level unread operator after
+taken_some level unread after operator None e h = let none = (some_pair_parts None (Some operator) unread after h).0 in cc
+taken_some level unread after operator (Some found) e h = taken_found level unread after operator found (nat_le (level_of found.0) level) e refl h
+
+pub taken_says : (level : ℕ) (unread after : Unread) (operator : Operator) → operator_taken level unread ≡ Some (Some operator, after) → Taken level unread operator after
+unfolding operator_taken
+taken_says level unread after operator h = taken_some level unread after operator (operator_at unread.bytes) refl h
+
+-- where none is taken
+none_found : (level : ℕ) (unread after : Unread) (found : Operator × List ℕ) (b : Bool) → operator_at unread.bytes ≡ Some found → nat_le (level_of found.0) level ≡ b → taken_by unread (cond b (Some found) None) ≡ Some (None, after) → (unread ≡ after) × (level < level_behind unread.bytes)
+none_found level unread after found true e less h =
+    let made = map_some (beside_some found.0) (past unread.tokens found.1) (None, after) h in
+    let some : Some found.0 ≡ None = ap (λ (r : Option Operator × Unread). r.0) made.2 in
+    cc
+none_found level unread after found false e less h =
+    let tighter = leb-false (level_of found.0) level less in
+    let here = ap level_found e in
+    ((some_pair_parts None None unread after h).1, subst (λ n. level < n) (sym here) tighter)
+
+none_some : (level : ℕ) (unread after : Unread) (found : Option (Operator × List ℕ)) → level ≤ 6 → operator_at unread.bytes ≡ found → taken_by unread (up_to level found) ≡ Some (None, after) → (unread ≡ after) × (level < level_behind unread.bytes)
+none_some level unread after None most e h =
+    let seven : level < 7 = omega arith in
+    ((some_pair_parts None None unread after h).1, subst (λ n. level < n) (sym (ap level_found e)) seven)
+none_some level unread after (Some found) most e h = none_found level unread after found (nat_le (level_of found.0) level) e refl h
+
+pub none_says : (level : ℕ) (unread after : Unread) → level ≤ 6 → operator_taken level unread ≡ Some (None, after) → (unread ≡ after) × (level < level_behind unread.bytes)
+unfolding operator_taken
+none_says level unread after most h = none_some level unread after (operator_at unread.bytes) most refl h
+
+found_level : (o : Option (Operator × List ℕ)) → 1 ≤ level_found o
+found_level None = omega arith
+found_level (Some found) = by_operator found.0
+  where
+    by_operator : (operator : Operator) → 1 ≤ level_of operator
+    by_operator o.Percent = omega arith
+    by_operator (o.Infix op) = let some = level_some op in omega arith
+
+-- no operator is a sign
+pub level_behind_some : (bytes : List ℕ) → 1 ≤ level_behind bytes
+level_behind_some bytes = found_level (operator_at bytes)

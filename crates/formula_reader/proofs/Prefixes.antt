@@ -1,125 +1,88 @@
--- How prefix operators are read.
-use Rattle.std.proofs.Common.{◌≡◌, ◌+◌, ◌-◌, ℕ, suc, Bool, true, false, cond, nat_le, List, [], ◌∷◌, ◌++◌, drop, Option, Some, None, refl, sym, ap, ◌∙◌, arith}
-use Rattle.std.specs.Prelude.{◌==◌}
-use Rattle.std.specs.List.{count_by, prefix_len, take_while}
-use Rattle.std.proofs.lemmas.Bool.{and_parts, cond-false, cond-true, le-leb, or_left, or_parts, or_right}
-use Rattle.std.proofs.lemmas.Bool.Decides.{nat_tests}
-use Rattle.std.proofs.lemmas.List.Sums.{sum_by-cons, take_while-cons}
-use Rattle.calc_model.specs.Tokens.{are_blanks, is_blank}
+-- Prefix operators, one after the other.
+use Rattle.std.proofs.Common.{◌≡◌, ◌<◌, ◌+◌, ◌-◌, ℕ, zero, suc, Bool, true, false, List, [], ◌∷◌, ◌++◌, Option, Some, None, refl, sym, ap, ◌∙◌, subst, arith}
+use Rattle.std.specs.Prelude.{◌==◌, option_map}
+use Rattle.std.proofs.lemmas.Bool.{cond-false, ne_eqb}
+use Rattle.std.proofs.lemmas.Option.{some_pair_parts}
 use Rattle.calc_model.specs.declared.tree.Tree.{Tree}
-use Rattle.formula_reader.specs.Unread.{◌>>=◌, Unread, behind}
-use Rattle.formula_reader.specs.Rows.{Inside, Read, is_sign, is_sign_or_blank, prefixed_at, prefixed_by, primary_at, sign_read, signed_by}
-use Rattle.formula_reader.proofs.Fronts.{at, begins}
+use Rattle.formula_reader.specs.declared.signs.Sign.{Sign}
+use Rattle.formula_reader.specs.Unread.{◌>>=◌, Read, Unread, past, skip}
+use Rattle.formula_reader.specs.Signs.{sign_at, sign_by, sign_found, sign_read, sign_taken, signed, signed_by, signs_read}
+use Rattle.formula_reader.proofs.Steps.{map_some, past_says}
+use Rattle.formula_reader.specs.Operands.{Inside, behind_sign, prefixed_at, prefixed_within, primary_at}
 
--- the front of a text, and what stands behind it
-abbrev parted : Inside → List ℕ → List ℕ → ℕ → Read
-parted nested front rest n =
-    let signs = count_by is_sign front in
-    prefixed_by nested (nat_le signs n) front (at rest (n - signs))
+pub no_some : {A : Type 0} (o : Option A) → ((x : A) → o ≡ Some x → ⊥) → o ≡ None
+no_some None h = refl
+no_some (Some x) h = absurd (h x refl)
 
-parted_at : (nested : Inside) (bytes : List ℕ) (n : ℕ) → prefixed_at nested (at bytes n) ≡ parted nested (take_while is_sign_or_blank bytes) (behind is_sign_or_blank bytes) n
-unfolding prefixed_at
-parted_at nested bytes n = refl
+pub signed_push : (before : List Sign) (sign : Sign) (x : Tree) → signed (before ++ sign ∷ []) x ≡ signed before (signed_by sign x)
+signed_push [] sign x = refl
+signed_push (first ∷ before) sign x = ap (signed_by first) (signed_push before sign x)
 
-front_more : (byte : ℕ) (bytes : List ℕ) → is_sign_or_blank byte ≡ true → take_while is_sign_or_blank (byte ∷ bytes) ≡ byte ∷ take_while is_sign_or_blank bytes
-front_more byte bytes h = take_while-cons is_sign_or_blank byte bytes ∙ cond-true (is_sign_or_blank byte) _ _ h
+pub read_pushed : (before : List Sign) (sign : Sign) (read : Read) → (read >>= sign_read sign >>= signs_read before) ≡ (read >>= signs_read (before ++ sign ∷ []))
+read_pushed before sign None = refl
+read_pushed before sign (Some read) = ap (λ x. Some (x, read.1)) (sym (signed_push before sign read.0))
 
-behind_more : (byte : ℕ) (bytes : List ℕ) → is_sign_or_blank byte ≡ true → behind is_sign_or_blank (byte ∷ bytes) ≡ behind is_sign_or_blank bytes
-behind_more byte bytes h =
-    let len = prefix_len is_sign_or_blank bytes in
-    let one : 1 + len ≡ suc len = omega arith in
-    ap (λ n. drop n (byte ∷ bytes)) (cond-true (is_sign_or_blank byte) _ _ h ∙ one)
-
-front_none : (bytes : List ℕ) → begins is_sign_or_blank bytes ≡ false → take_while is_sign_or_blank bytes ≡ []
-front_none [] h = refl
-front_none (byte ∷ bytes) h = take_while-cons is_sign_or_blank byte bytes ∙ cond-false (is_sign_or_blank byte) _ _ h
-
-behind_none : (bytes : List ℕ) → begins is_sign_or_blank bytes ≡ false → behind is_sign_or_blank bytes ≡ bytes
-behind_none [] h = refl
-behind_none (byte ∷ bytes) h = ap (λ n. drop n (byte ∷ bytes)) (cond-false (is_sign_or_blank byte) _ _ h)
-
-read_unsigned : (o : Option (Tree × Unread)) → (o >>= sign_read []) ≡ o
+pub read_unsigned : (read : Read) → (read >>= signs_read []) ≡ read
 read_unsigned None = refl
 read_unsigned (Some read) = refl
 
--- a primary without signs
-pub no_sign : (nested : Inside) (bytes : List ℕ) (n : ℕ) → begins is_sign_or_blank bytes ≡ false → prefixed_at nested (at bytes n) ≡ primary_at nested (at bytes n)
-no_sign nested bytes n none =
-    let less : n - 0 ≡ n = omega arith in
-    parted_at nested bytes n
-    ∙ ap (λ front. parted nested front (behind is_sign_or_blank bytes) n) (front_none bytes none)
-    ∙ ap (λ b. prefixed_by nested b [] (at (behind is_sign_or_blank bytes) (n - 0))) (le-leb 0 n (omega arith))
-    ∙ read_unsigned (primary_at nested (at (behind is_sign_or_blank bytes) (n - 0)))
-    ∙ ap (λ rest. primary_at nested (at rest (n - 0))) (behind_none bytes none)
-    ∙ ap (λ m. primary_at nested (at bytes m)) less
+past_more : (n : ℕ) (rest : List ℕ) → past (suc n) rest ≡ Some (record { bytes = skip rest; tokens = n })
+past_more n rest =
+    let less : suc n - 1 ≡ n = omega arith in
+    cond-false (suc n == 0) _ _ (ne_eqb (suc n) 0 (omega arith)) ∙ ap (λ k. Some (record { bytes = skip rest; tokens = k })) less
 
--- a tree behind a sign
-abbrev pub signed_read : ℕ → Tree × Unread → Read
-signed_read byte read = Some (signed_by byte read.0, read.1)
+tokens_by : (unread after : Unread) (sign : Sign) (found : Option (Sign × List ℕ)) → sign_by unread found ≡ Some (Some sign, after) → after.tokens < unread.tokens
+tokens_by unread after sign None h = let none = (some_pair_parts None (Some sign) unread after h).0 in cc
+tokens_by unread after sign (Some found) h =
+    let made = map_some (sign_found found.0) (past unread.tokens found.1) (Some sign, after) h in
+    let same : made.0 ≡ after = ap (λ (r : Option Sign × Unread). r.1) made.2 in
+    let taken : unread.tokens ≡ 1 + made.0.tokens = (past_says unread.tokens found.1 made.0 made.1).tokens in
+    subst (λ (l : Unread). l.tokens < unread.tokens) same (omega arith)
 
-read_signed : (byte : ℕ) (front : List ℕ) (o : Option (Tree × Unread)) → (o >>= sign_read (byte ∷ front)) ≡ (o >>= sign_read front >>= signed_read byte)
-read_signed byte front None = refl
-read_signed byte front (Some read) = refl
+-- a sign takes a token
+pub sign_tokens : (unread after : Unread) (sign : Sign) → sign_taken unread ≡ Some (Some sign, after) → after.tokens < unread.tokens
+unfolding sign_taken
+sign_tokens unread after sign h = tokens_by unread after sign (sign_at unread.bytes) h
 
-prefixed_more : (nested : Inside) (byte : ℕ) (front : List ℕ) (l : Unread) (b : Bool) → prefixed_by nested b (byte ∷ front) l ≡ (prefixed_by nested b front l >>= signed_read byte)
-prefixed_more nested byte front l true = read_signed byte front (primary_at nested l)
-prefixed_more nested byte front l false = refl
+module _ (nested : Inside) where
+  taken_last : (found : Option (Sign × List ℕ)) (bytes : List ℕ) → (sign_by (record { bytes = bytes; tokens = 0 }) found >>= behind_sign nested (λ rest. None)) ≡ (sign_by (record { bytes = bytes; tokens = 0 }) found >>= behind_sign nested (prefixed_at nested))
+  taken_last None bytes = refl
+  taken_last (Some found) bytes = refl
 
-pub signs_more : (byte : ℕ) (front : List ℕ) → count_by is_sign (byte ∷ front) ≡ cond (is_sign byte) 1 0 + count_by is_sign front
-signs_more byte front = sum_by-cons (λ x. cond (is_sign x) 1 0) byte front
+  taken_more : (n : ℕ) (found : Option (Sign × List ℕ)) (bytes : List ℕ) → (sign_by (record { bytes = bytes; tokens = suc n }) found >>= behind_sign nested (prefixed_within nested n)) ≡ (sign_by (record { bytes = bytes; tokens = suc n }) found >>= behind_sign nested (prefixed_at nested))
+  taken_more n None bytes = refl
+  taken_more n (Some found) bytes =
+      let one = past_more n found.1 in
+      ap (λ after. option_map (sign_found found.0) after >>= behind_sign nested (prefixed_within nested n)) one
+      ∙ sym (ap (λ after. option_map (sign_found found.0) after >>= behind_sign nested (prefixed_at nested)) one)
 
-less_by_one : (signs n k : ℕ) → k ≡ 1 + n → nat_le (1 + signs) k ≡ nat_le signs n
-less_by_one signs n k e = grind (arith, nat_tests)
+  is_within : (n : ℕ) (bytes : List ℕ) → prefixed_at nested (record { bytes = bytes; tokens = n }) ≡ (sign_taken (record { bytes = bytes; tokens = n }) >>= behind_sign nested (prefixed_at nested))
+  unfolding prefixed_within sign_taken
+  is_within zero bytes = taken_last (sign_at bytes) bytes
+  is_within (suc n) bytes = taken_more n (sign_at bytes) bytes
 
-parted_sign : (nested : Inside) (byte : ℕ) (front rest : List ℕ) (n k : ℕ) → is_sign byte ≡ true → k ≡ 1 + n → parted nested (byte ∷ front) rest k ≡ (parted nested front rest n >>= signed_read byte)
-parted_sign nested byte front rest n k sign e =
-    let signs = count_by is_sign front in
-    let count : count_by is_sign (byte ∷ front) ≡ 1 + signs = signs_more byte front ∙ ap (λ m. m + signs) (cond-true {A = ℕ} (is_sign byte) 1 0 sign) in
-    let less : k - (1 + signs) ≡ n - signs = omega arith in
-    ap (λ m. prefixed_by nested (nat_le m k) (byte ∷ front) (at rest (k - m))) count
-    ∙ ap (λ b. prefixed_by nested b (byte ∷ front) (at rest (k - (1 + signs)))) (less_by_one signs n k e)
-    ∙ ap (λ m. prefixed_by nested (nat_le signs n) (byte ∷ front) (at rest m)) less
-    ∙ prefixed_more nested byte front (at rest (n - signs)) (nat_le signs n)
+  -- a primary, or a sign and what stands behind it
+  pub prefixed_is : (unread : Unread) → prefixed_at nested unread ≡ (sign_taken unread >>= behind_sign nested (prefixed_at nested))
+  prefixed_is unread = is_within unread.tokens unread.bytes
 
--- what is behind a sign is read with it
-pub one_sign : (nested : Inside) (byte : ℕ) (bytes : List ℕ) (n k : ℕ) → is_sign byte ≡ true → k ≡ 1 + n → prefixed_at nested (at (byte ∷ bytes) k) ≡ (prefixed_at nested (at bytes n) >>= signed_read byte)
-one_sign nested byte bytes n k sign e =
-    let passes : is_sign_or_blank byte ≡ true = or_left (is_sign byte) (is_blank byte) sign in
-    parted_at nested (byte ∷ bytes) k
-    ∙ ap (λ front. parted nested front (behind is_sign_or_blank (byte ∷ bytes)) k) (front_more byte bytes passes)
-    ∙ ap (λ rest. parted nested (byte ∷ take_while is_sign_or_blank bytes) rest k) (behind_more byte bytes passes)
-    ∙ parted_sign nested byte (take_while is_sign_or_blank bytes) (behind is_sign_or_blank bytes) n k sign e
-    ∙ ap (λ o. o >>= signed_read byte) (sym (parted_at nested bytes n))
+  prefixed_by : (unread : Unread) (taken : Option (Option Sign × Unread)) → sign_taken unread ≡ taken → prefixed_at nested unread ≡ (taken >>= behind_sign nested (prefixed_at nested))
+  prefixed_by unread taken e = prefixed_is unread ∙ ap (λ o. o >>= behind_sign nested (prefixed_at nested)) e
 
-blank_no_sign : (byte : ℕ) → is_blank byte ≡ true → is_sign byte ≡ false
-blank_no_sign byte h = grind (arith, nat_tests)
+  -- a primary without signs, and what stands behind a sign
+  pub no_sign : (unread after : Unread) → sign_taken unread ≡ Some (None, after) → prefixed_at nested unread ≡ primary_at nested after
+  no_sign unread after e = prefixed_by unread (Some (None, after)) e
 
-signed_blank : (byte : ℕ) (x : Tree) → is_sign byte ≡ false → signed_by byte x ≡ x
-signed_blank byte x h =
-    let parts = or_parts (byte == 43) (byte == 45) h in
-    cond-false (byte == 43) _ _ parts.0 ∙ cond-false (byte == 45) _ _ parts.1
+  pub one_sign : (sign : Sign) (unread after : Unread) → sign_taken unread ≡ Some (Some sign, after) → prefixed_at nested unread ≡ (prefixed_at nested after >>= sign_read sign)
+  one_sign sign unread after e = prefixed_by unread (Some (Some sign, after)) e
 
-read_blank : (byte : ℕ) (o : Option (Tree × Unread)) → is_sign byte ≡ false → (o >>= signed_read byte) ≡ o
-read_blank byte None h = refl
-read_blank byte (Some read) h = ap (λ x. Some (x, read.1)) (signed_blank byte read.0 h)
+  -- what the loop over signs keeps: what is read behind those that were taken is what is read from the start
+  module _ (before : List Sign) (unread start : Unread) where
+    pub signs_fail : sign_taken unread ≡ None → (prefixed_at nested unread >>= signs_read before) ≡ prefixed_at nested start → prefixed_at nested start ≡ None
+    signs_fail e same = sym same ∙ ap (λ o. o >>= signs_read before) (prefixed_by unread None e)
 
-parted_blank : (nested : Inside) (byte : ℕ) (front rest : List ℕ) (n : ℕ) → is_sign byte ≡ false → parted nested (byte ∷ front) rest n ≡ parted nested front rest n
-parted_blank nested byte front rest n h =
-    let signs = count_by is_sign front in
-    let count : count_by is_sign (byte ∷ front) ≡ signs = signs_more byte front ∙ omega (arith, cond-false {A = ℕ} (is_sign byte) 1 0 h) in
-    ap (λ m. prefixed_by nested (nat_le m n) (byte ∷ front) (at rest (n - m))) count
-    ∙ prefixed_more nested byte front (at rest (n - signs)) (nat_le signs n)
-    ∙ read_blank byte (parted nested front rest n) h
+    pub signs_end : (after : Unread) → sign_taken unread ≡ Some (None, after) → (prefixed_at nested unread >>= signs_read before) ≡ prefixed_at nested start → prefixed_at nested start ≡ (primary_at nested after >>= signs_read before)
+    signs_end after e same = sym same ∙ ap (λ o. o >>= signs_read before) (no_sign unread after e)
 
--- blanks between signs say nothing
-pub blanks_passed : (nested : Inside) (blanks bytes : List ℕ) (n : ℕ) → are_blanks blanks ≡ true → prefixed_at nested (at (blanks ++ bytes) n) ≡ prefixed_at nested (at bytes n)
-blanks_passed nested [] bytes n all = refl
-blanks_passed nested (byte ∷ blanks) bytes n all =
-    let parts = and_parts (is_blank byte) (are_blanks blanks) all in
-    let passes : is_sign_or_blank byte ≡ true = or_right (is_sign byte) (is_blank byte) parts.0 in
-    parted_at nested (byte ∷ (blanks ++ bytes)) n
-    ∙ ap (λ front. parted nested front (behind is_sign_or_blank (byte ∷ (blanks ++ bytes))) n) (front_more byte (blanks ++ bytes) passes)
-    ∙ ap (λ rest. parted nested (byte ∷ take_while is_sign_or_blank (blanks ++ bytes)) rest n) (behind_more byte (blanks ++ bytes) passes)
-    ∙ parted_blank nested byte (take_while is_sign_or_blank (blanks ++ bytes)) (behind is_sign_or_blank (blanks ++ bytes)) n (blank_no_sign byte parts.0)
-    ∙ sym (parted_at nested (blanks ++ bytes) n)
-    ∙ blanks_passed nested blanks bytes n parts.1
+    pub signs_go : (sign : Sign) (after : Unread) → sign_taken unread ≡ Some (Some sign, after) → (prefixed_at nested unread >>= signs_read before) ≡ prefixed_at nested start → (prefixed_at nested after >>= signs_read (before ++ sign ∷ [])) ≡ prefixed_at nested start
+    signs_go sign after e same =
+        sym (read_pushed before sign (prefixed_at nested after)) ∙ sym (ap (λ o. o >>= signs_read before) (one_sign sign unread after e)) ∙ same

@@ -14,13 +14,15 @@ use Rattle.calc_model.specs.declared.fault.Fault.{Fault}
 use Rattle.calc_model.specs.declared.fault.Fault.TheVariants.{NA, DivZero, BadValue, BadRef, BadName, BadNum, Null, Over, Syntax, Circular}
 use Rattle.calc_model.specs.declared.tree.Tree.{Tree}
 use Rattle.calc_model.specs.declared.tree.Tree.TheVariants as t
-use Rattle.formula_reader.specs.declared.rows.Start.TheVariants.{Operand, Word}
-use Rattle.formula_reader.specs.Leaves.{error_at, number_at, number_tree, operand_at}
-use Rattle.formula_reader.specs.Unread.{◌>>=◌, Unread, is_at, past}
-use Rattle.formula_reader.specs.Rows.{Inside, args_at, call_by, call_node, closed, operand_left, primary_at, primary_by, start_of, word_behind, word_by}
+use Rattle.formula_reader.specs.declared.operands.Start.TheVariants.{Operand, Word}
+use Rattle.formula_reader.specs.Leaves.{error_at, number_at, number_tree, operand_at, taken, token_taken}
+use Rattle.formula_reader.specs.Unread.{◌>>=◌, Unread, beside, next_is, past}
+use Rattle.formula_reader.specs.Operands.{Inside, args_at, call_behind, call_node, closed, name_of, primary_at, primary_by, start_of, word_behind}
 use Rattle.formula_reader.proofs.Beginnings.{behind_blanks, identifier_begins, identifier_bytes, is_number_start, number_begins}
 use Rattle.formula_reader.proofs.ErrorFronts.{error_in_front}
-use Rattle.formula_reader.proofs.Fronts.{Follows, Stops, Stops-append, at, begins, begins-append, begins_less, behind-all, is_no_stop, past-blanks, past-token, take_while-all}
+use Rattle.byte_cuts.specs.Fronts.{begins}
+use Rattle.byte_cuts.proofs.Fronts.{begins-append, begins_less, behind-all, take_while-all}
+use Rattle.formula_reader.proofs.Fronts.{Follows, Stops, Stops-append, at, is_no_stop, past-blanks, past-token}
 use Rattle.formula_reader.proofs.NumberFronts.{number_in_front}
 use Rattle.formula_reader.proofs.Quoting.{quoted_parts, string_in_front}
 use Rattle.formula_reader.proofs.ReferenceFronts.{bracketed_parts, reference_in_front}
@@ -94,20 +96,20 @@ module _ (nested : Inside) where
       ∙ ap (λ w. past n rest >>= word_behind nested w) (take_while-all is_in_identifier word rest all ends)
       ∙ ap (λ o. o >>= word_behind nested word) e
 
-  follow_no_parenthesis : (rest : List ℕ) → Follows rest → is_at 40 rest ≡ false
+  follow_no_parenthesis : (rest : List ℕ) → Follows rest → next_is 40 rest ≡ false
   follow_no_parenthesis [] h = refl
   follow_no_parenthesis (byte ∷ rest) h = grind (arith, nat_tests)
 
-  name_behind : (word : List ℕ) (l : Unread) → is_at 40 l.bytes ≡ false → is_name word ≡ true → word_behind nested word l ≡ Some (t.Name word, l)
+  name_behind : (word : List ℕ) (l : Unread) → next_is 40 l.bytes ≡ false → is_name word ≡ true → word_behind nested word l ≡ Some (t.Name word, l)
   unfolding word_behind
-  name_behind word l other h = ap (λ b. word_by nested b word l) other ∙ cond-true (is_name word) _ _ h
+  name_behind word l other h = cond-false (next_is 40 l.bytes) _ _ other ∙ ap (option_map (beside l)) (cond-true (is_name word) _ _ h)
 
   as_operand : (text blanks rest : List ℕ) (x : Tree) (m n : ℕ) → n ≡ 1 + m → are_blanks blanks ≡ true → Follows rest → AsOperand text (blanks ++ rest) x → primary_at nested (at ((text ++ blanks) ++ rest) n) ≡ Some (x, at rest m)
   unfolding primary_at
   as_operand text blanks rest x m n tokens all follows h =
       ap (λ bytes. primary_by nested (start_of bytes) (at bytes n)) (append_assoc text blanks rest)
       ∙ ap (λ start. primary_by nested start (at (text ++ (blanks ++ rest)) n)) h.starts
-      ∙ ap (λ o. o >>= operand_left n) h.reads
+      ∙ ap (token_taken n) h.reads
       ∙ ap (λ o. option_map (λ (l : Unread). (x, l)) o) (past-token blanks rest m n tokens all follows)
 
   -- an operand by itself is read where something may follow it
@@ -135,9 +137,9 @@ module _ (nested : Inside) where
       ∙ word_in_front word (blanks ++ rest) (at rest m) n (name_is_identifier word h) ends (past-token blanks rest m n tokens all follows)
       ∙ name_behind word (at rest m) (follow_no_parenthesis rest follows) h
 
-  call_behind : (word inside : List ℕ) (n : ℕ) → (is_identifier word && nested.opens) ≡ true → word_behind nested word (at (40 ∷ inside) n) ≡ (past n inside >>= args_at nested >>= closed (call_node nested word))
+  call_opens : (word inside : List ℕ) (n : ℕ) → (is_identifier word && nested.opens) ≡ true → word_behind nested word (at (40 ∷ inside) n) ≡ (past n inside >>= args_at nested >>= closed (call_node nested word))
   unfolding word_behind
-  call_behind word inside n h = ap (λ b. call_by nested b word (at (40 ∷ inside) n)) h
+  call_opens word inside n h = cond-true (is_identifier word && nested.opens) _ _ h
 
   blank_no_identifier : (byte : ℕ) → is_blank byte ≡ true → is_in_identifier byte ≡ false
   blank_no_identifier byte h = grind (arith, nat_tests)
@@ -151,7 +153,7 @@ module _ (nested : Inside) where
       let back = text ++ (41 ∷ (last ++ rest)) in
       let ends = behind_blanks is_in_identifier blanks (40 ∷ (first ++ back)) blank_no_identifier a refl in
       word_in_front word (blanks ++ (40 ∷ (first ++ back))) (at (40 ∷ (first ++ back)) (1 + inside)) n h ends (past-blanks blanks (40 ∷ (first ++ back)) (1 + inside) n (omega arith) a refl)
-      ∙ call_behind word (first ++ back) (1 + inside) (and_from (is_identifier word) nested.opens h opens)
+      ∙ call_opens word (first ++ back) (1 + inside) (and_from (is_identifier word) nested.opens h opens)
       ∙ ap (λ o. o >>= args_at nested >>= closed (call_node nested word)) (past-blanks first back inside (1 + inside) refl b none)
       ∙ ap (λ o. o >>= closed (call_node nested word)) reads
       ∙ ap (λ o. option_map (λ (l : Unread). (call_node nested word args, l)) o) (past-token last rest m (1 + m) refl c follows)

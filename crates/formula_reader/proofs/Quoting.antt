@@ -9,18 +9,17 @@ use Rattle.calc_model.specs.Tokens.{doubled, quoted}
 use Rattle.calc_model.specs.declared.tree.Tree.TheVariants as t
 use Rattle.formula_reader.specs.Leaves.{prepend, string_at, unquoted, words_of}
 use Rattle.formula_reader.specs.Unread.{◌>>=◌}
-use Rattle.formula_reader.proofs.Fronts.{Stops, begins, begins_less, is_no_stop}
-use Rattle.formula_reader.proofs.Unquoting.{unquoted_pass, unquoted_push}
-
-abbrev is_quote : ℕ → Bool
-is_quote byte = byte == 34
+use Rattle.byte_cuts.specs.Fronts.{begins}
+use Rattle.byte_cuts.proofs.Fronts.{begins_less}
+use Rattle.formula_reader.proofs.Fronts.{Stops, is_no_stop}
+use Rattle.formula_reader.proofs.Unquoting.{is_quote, unquoted_pass, unquoted_push}
 
 stop_no_quote : (byte : ℕ) → is_no_stop byte ≡ false → is_quote byte ≡ false
 stop_no_quote byte h = grind (arith, nat_tests)
 
-quote_ends : (rest : List ℕ) → begins is_quote rest ≡ false → unquoted true rest ≡ Some ([], rest)
-quote_ends [] h = refl
-quote_ends (byte ∷ rest) h = cond-false (byte == 34) _ _ h
+quote_stops : (rest : List ℕ) → begins is_quote rest ≡ false → unquoted true rest ≡ Some ([], rest)
+quote_stops [] h = refl
+quote_stops (byte ∷ rest) h = cond-false (byte == 34) _ _ h
 
 one_byte : (byte : ℕ) (rest : List ℕ) (b : Bool) → (byte == 34) ≡ b → unquoted false (doubled byte ++ rest) ≡ prepend byte (unquoted false rest)
 one_byte byte rest true e =
@@ -32,7 +31,7 @@ one_byte byte rest false e =
     ∙ unquoted_push false byte rest e
 
 unquoted_text : (text rest : List ℕ) → begins is_quote rest ≡ false → unquoted false (flat_map doubled text ++ (34 ∷ rest)) ≡ Some (text, rest)
-unquoted_text [] rest h = quote_ends rest h
+unquoted_text [] rest h = quote_stops rest h
 unquoted_text (byte ∷ text) rest h =
     ap (unquoted false) (append_assoc (doubled byte) (flat_map doubled text) (34 ∷ rest))
     ∙ one_byte byte (flat_map doubled text ++ (34 ∷ rest)) (byte == 34) refl

@@ -1,15 +1,17 @@
 -- What a reading that doesn't fail says of its steps.
-use Rattle.std.proofs.Common.{◌≡◌, ◌+◌, ◌-◌, ℕ, zero, suc, Bool, true, false, cond, List, [], ◌∷◌, ◌++◌, drop, Option, Some, None, refl, sym, ap, ◌∙◌, subst, arith}
+use Rattle.std.proofs.Common.{◌≡◌, ◌+◌, ◌-◌, ℕ, zero, suc, Bool, true, false, cond, List, [], ◌∷◌, ◌++◌, drop, Option, Some, None, refl, sym, ap, ◌∙◌, subst, ◌⊎◌, inl, inr, arith}
 use Rattle.std.specs.Prelude.{◌==◌, option_map}
 use Rattle.std.specs.List.{list_all, prefix_len, take_while}
 use Rattle.std.proofs.lemmas.Bool.{and_from, cond-false, cond-true, eqb-false, eqb-true}
 use Rattle.std.proofs.lemmas.List.{take-append-drop}
 use Rattle.std.proofs.lemmas.List.Sums.{take_while-cons}
-use Rattle.std.proofs.lemmas.Option.{same_Some, some_pair_parts}
+use Rattle.std.proofs.lemmas.Option.{same_Some}
 use Rattle.calc_model.specs.Tokens.{are_blanks, is_blank}
-use Rattle.formula_reader.specs.Unread.{◌>>=◌, Unread, behind, is_at, past, skip, token_at}
-use Rattle.formula_reader.specs.Rows.{chain, goes_on}
-use Rattle.formula_reader.proofs.Fronts.{at, begins}
+use Rattle.byte_cuts.specs.Fronts.{behind}
+use Rattle.formula_reader.specs.Unread.{◌>>=◌, Unread, next_is, past, skip, token_at}
+use Rattle.formula_reader.specs.Unread.{go_on, repeat}
+use Rattle.byte_cuts.specs.Fronts.{begins}
+use Rattle.formula_reader.proofs.Fronts.{at}
 use Rattle.formula_reader.proofs.NumberFronts.{some_or}
 
 pub bind_some : {A B : Type 0} (o : Option A) (step : A → Option B) (y : B) → (o >>= step) ≡ Some y → (x : A) × (o ≡ Some x) × (step x ≡ Some y)
@@ -48,17 +50,12 @@ behind_stops test (byte ∷ bytes) = stops_more test byte bytes (test byte) refl
 pub front_and_behind : (test : ℕ → Bool) (bytes : List ℕ) → bytes ≡ take_while test bytes ++ behind test bytes
 front_and_behind test bytes = sym (take-append-drop (prefix_len test bytes) bytes)
 
--- no blank is in front
-abbrev pub Clean : Unread → Type 0
-Clean l = begins is_blank l.bytes ≡ false
-
 -- what taking a token says
 pub record Past (n : ℕ) (rest : List ℕ) (l : Unread) : Type 0 where
   pub blanks : List ℕ
   pub are_blank : are_blanks blanks ≡ true
   pub joined : rest ≡ blanks ++ l.bytes
   pub tokens : n ≡ 1 + l.tokens
-  pub clean : Clean l
 
 past_by : (n : ℕ) (rest : List ℕ) (b : Bool) (l : Unread) → (n == 0) ≡ b → cond b None (Some (at (skip rest) (n - 1))) ≡ Some l → Past n rest l
 past_by n rest true l e h = cc
@@ -70,7 +67,6 @@ past_by n rest false l e h =
       are_blank = front_passes is_blank rest;
       joined = front_and_behind is_blank rest;
       tokens = omega (arith, more);
-      clean = behind_stops is_blank rest;
     }
 
 pub past_says : (n : ℕ) (rest : List ℕ) (l : Unread) → past n rest ≡ Some l → Past n rest l
@@ -82,27 +78,37 @@ pub record Token (byte : ℕ) (l after : Unread) : Type 0 where
   pub joined : l.bytes ≡ byte ∷ rest
   pub passed : Past l.tokens rest after
 
-token_by : (byte : ℕ) (bytes : List ℕ) (n : ℕ) (after : Unread) → is_at byte bytes ≡ true → past n (drop 1 bytes) ≡ Some after → Token byte (at bytes n) after
+token_by : (byte : ℕ) (bytes : List ℕ) (n : ℕ) (after : Unread) → next_is byte bytes ≡ true → past n (drop 1 bytes) ≡ Some after → Token byte (at bytes n) after
 token_by byte [] n after e h = cc
 token_by byte (first ∷ rest) n after e h = record { rest = rest; joined = ap (λ b. b ∷ rest) (eqb-true first byte e); passed = past_says n rest after h }
 
 pub token_says : (byte : ℕ) (l after : Unread) → token_at byte l ≡ Some after → Token byte l after
 token_says byte l after h =
-    let parts = some_or (is_at byte l.bytes) (past l.tokens (drop 1 l.bytes)) after h in
+    let parts = some_or (next_is byte l.bytes) (past l.tokens (drop 1 l.bytes)) after h in
     token_by byte l.bytes l.tokens after parts.0 parts.1
 
--- what holds of each part of a chain, while fewer items may follow
-module _ {S I : Type 0} (next : Unread → Option (Option (I × Unread))) (put : S → I → S) (Q : ℕ → S → Unread → Type 0) (step : (n : ℕ) (state : S) (l after : Unread) (item : I) → Q (suc n) state l → next l ≡ Some (Some (item, after)) → Q n (put state item) after) where
-  goes_by : (n : ℕ) (state state' : S) (l l' : Unread) (o : Option (Option (I × Unread))) → next l ≡ o → (goes_on (chain next put n) put state l ≡ goes_on (chain next put n) put state l) → ((later : S) (after : Unread) → Q n later after → chain next put n later after ≡ Some (state', l') → (m : ℕ) × Q m state' l') → Q (suc n) state l → (o >>= goes_on (chain next put n) put state l) ≡ Some (state', l') → (m : ℕ) × Q m state' l'
-  goes_by n state state' l l' None e _ rest q h = cc
-  goes_by n state state' l l' (Some None) e _ rest q h =
-      let parts = some_pair_parts state state' l l' h in
-      (suc n, subst (Q (suc n) state') parts.1 (subst (λ x. Q (suc n) x l) parts.0 q))
-  goes_by n state state' l l' (Some (Some item)) e _ rest q h = rest (put state item.0) item.1 (step n state l item.1 item.0 q e) h
+-- what holds of each turn of a repeated step that leaves what is unread where it ends, while fewer turns may follow
+module _ {S : Type 0} (step : S → Unread → Option (Option S × Unread)) (stays : (state : S) (unread after : Unread) → step state unread ≡ Some (None, after) → unread ≡ after)
+    (Q : ℕ → S → Unread → Type 0) (turn : (n : ℕ) (state next : S) (unread after : Unread) → Q (suc n) state unread → step state unread ≡ Some (Some next, after) → Q n next after) where
+  -- how it ends: at a step that makes no more, or when all turns are taken
+  pub record Ended (state : S) (last : Unread) : Type 0 where
+    pub left : ℕ
+    pub holds : Q left state last
+    pub stops : (step state last ≡ Some (None, last)) ⊎ (left ≡ 0)
 
-  pub chain_says : (n : ℕ) (state state' : S) (l l' : Unread) → Q n state l → chain next put n state l ≡ Some (state', l') → (m : ℕ) × Q m state' l'
-  unfolding chain
-  chain_says zero state state' l l' q h =
-      let parts = some_pair_parts state state' l l' h in
-      (0, subst (Q 0 state') parts.1 (subst (λ x. Q 0 x l) parts.0 q))
-  chain_says (suc n) state state' l l' q h = goes_by n state state' l l' (next l) refl refl (λ later after r k. chain_says n later state' after l' r k) q h
+  ends_by : (n : ℕ) (state final : S) (unread last : Unread) (o : Option S) (after : Unread) → step state unread ≡ Some (o, after) → ((next : S) → Q n next after → repeat step n next after ≡ Some (final, last) → Ended final last) → Q (suc n) state unread → go_on (repeat step n) state (o, after) ≡ Some (final, last) → Ended final last
+  ends_by n state final unread last None after e rest q h =
+      let same = stays state unread after e in
+      let stopped : step state after ≡ Some (None, after) = subst (λ l. step state l ≡ Some (None, after)) same e in
+      let ended : Ended state after = record { left = suc n; holds = subst (Q (suc n) state) same q; stops = inl stopped } in
+      subst (λ (p : S × Unread). Ended p.0 p.1) (same_Some (state, after) (final, last) h) ended
+  ends_by n state final unread last (Some next) after e rest q h = rest next (turn n state next unread after q e) h
+
+  pub repeat_says : (n : ℕ) (state final : S) (unread last : Unread) → Q n state unread → repeat step n state unread ≡ Some (final, last) → Ended final last
+  unfolding repeat
+  repeat_says zero state final unread last q h =
+      let ended : Ended state unread = record { left = 0; holds = q; stops = inr refl } in
+      subst (λ (p : S × Unread). Ended p.0 p.1) (same_Some (state, unread) (final, last) h) ended
+  repeat_says (suc n) state final unread last q h =
+      let made = bind_some (step state unread) (go_on (repeat step n) state) (final, last) h in
+      ends_by n state final unread last made.0.0 made.0.1 made.1 (λ next r k. repeat_says n next final made.0.1 last r k) q made.2

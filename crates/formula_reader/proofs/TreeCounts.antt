@@ -1,5 +1,5 @@
 -- The counts of a tree, by its top node.
-use Rattle.std.proofs.Common.{◌≡◌, ◌≤◌, ◌+◌, ◌-◌, ℕ, suc, List, [], ◌∷◌, ◌++◌, length, max, map, sum, refl, ap, ◌∙◌, arith}
+use Rattle.std.proofs.Common.{◌≡◌, ◌≤◌, ◌+◌, ◌-◌, ℕ, suc, List, [], ◌∷◌, ◌++◌, length, max, map, sum, refl, ap, ◌∙◌, subst, arith}
 use Rattle.std.proofs.lemmas.List.Sums.{fold_push, sum_by_push}
 use Rattle.calc_model.proofs.TreeFolds as folds
 use Rattle.calc_model.specs.Grammar.{IsOperand, error, large_number, name, number, reference, string}
@@ -76,6 +76,12 @@ percent_counts x =
     let e = folds.at-Percent Counts counts_step x in
     record { tokens = ap tokens e; opens = ap opens e; parameters = ap parameters e }
 
+pub within_child : {others d : ℕ} {node child : Tree} → OneMore node child → Within others d node → Within others d child
+within_child {others = others} {d = d} counts within = record {
+  opens = subst (λ n. n ≤ d) counts.opens within.opens;
+  parameters = subst (λ n. n ≤ suc others) counts.parameters within.parameters;
+}
+
 pub record ParenCounts (x : Tree) : Type 0 where
   pub tokens : tokens_of (t.Paren x) ≡ tokens_of x + 2
   pub opens : open_of (t.Paren x) ≡ open_of x + 1
@@ -99,6 +105,10 @@ binary_counts op x y =
 -- what parameters count together, semicolons apart
 abbrev pub all_tokens : List Tree → ℕ
 all_tokens args = sum (map tokens (map counts_of args))
+
+-- the tokens of parameters, with the semicolons between them
+abbrev pub args_tokens : List Tree → ℕ
+args_tokens args = all_tokens args + (length args - 1)
 
 abbrev pub most_open : List Tree → ℕ
 most_open args = most (map opens (map counts_of args))

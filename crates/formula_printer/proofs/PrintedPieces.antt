@@ -1,5 +1,4 @@
--- Rows of the grammar: a looser row holds what a tighter one does, and the pieces that are printed without a
--- blank are pieces of their rows.
+-- The pieces that are printed without a blank are pieces of their levels.
 use Rattle.std.proofs.Common.{◌≡◌, ℕ, zero, suc, ◌-◌, ◌≤◌, true, List, [], ◌∷◌, ◌++◌, map, refl, sym, ap, ◌∙◌, subst, inl, inr, arith, append_assoc}
 use Rattle.std.specs.Prelude.{codes}
 use Rattle.std.specs.List.{AllByRecursion, join_with_byte}
@@ -11,56 +10,16 @@ use Rattle.calc_model.specs.declared.tree.Tree.{Tree}
 use Rattle.calc_model.specs.declared.tree.Tree.TheVariants as t
 use Rattle.calc_model.specs.Grammar.{in_capitals, op_level, op_text, IsPrimary, IsLevel, AreArgs, AreSomeArgs, call, looser, minus, more, none, one, operated, parenthesis, percent, plus, primary, some}
 use Rattle.calc_model.specs.Tokens.{is_identifier}
-
--- a looser row
-pub loosened : (text : List ℕ) (x : Tree) (k row : ℕ) → row ≤ k → IsLevel row text x → IsLevel k text x
-loosened text x zero row within is =
-    let Spelled : ℕ → Type 0 = λ n. IsLevel n text x in
-    let same : row ≡ 0 = omega arith in
-    subst Spelled same is
-loosened text x (suc k) row within is =
-    let Spelled : ℕ → Type 0 = λ n. IsLevel n text x in
-    elim (cases_lt k row) [
-      | inl above ↦ let same : row ≡ suc k = omega arith in subst Spelled same is
-      | inr below ↦ looser (loosened text x k row below is)
-    ]
-
-pub op_level-most : (op : Op) → op_level op ≤ 6
-op_level-most Pow = omega arith
-op_level-most Mul = omega arith
-op_level-most Div = omega arith
-op_level-most Add = omega arith
-op_level-most Sub = omega arith
-op_level-most Cat = omega arith
-op_level-most Eq = omega arith
-op_level-most Ne = omega arith
-op_level-most Lt = omega arith
-op_level-most Le = omega arith
-op_level-most Gt = omega arith
-op_level-most Ge = omega arith
-
-op_level-some : (op : Op) → op_level op ≡ suc (op_level op - 1)
-op_level-some Pow = refl
-op_level-some Mul = refl
-op_level-some Div = refl
-op_level-some Add = refl
-op_level-some Sub = refl
-op_level-some Cat = refl
-op_level-some Eq = refl
-op_level-some Ne = refl
-op_level-some Lt = refl
-op_level-some Le = refl
-op_level-some Gt = refl
-op_level-some Ge = refl
+use Rattle.calc_model.proofs.GrammarLevels.{level_some}
 
 -- an infix operator between its operands
 pub printed_binary : (op : Op) (left right : List ℕ) (x y : Tree) → IsLevel (op_level op) left x → IsLevel (op_level op - 1) right y → IsLevel (op_level op) (left ++ op_text op ++ right) (t.Binary op x y)
 printed_binary op left right x y is_left is_right =
-    let row = op_level op - 1 in
+    let level = op_level op - 1 in
     let Left : ℕ → Type 0 = λ n. IsLevel n left x in
     let Whole : ℕ → Type 0 = λ n. IsLevel n (left ++ op_text op ++ right) (t.Binary op x y) in
-    let Spelled : List ℕ → Type 0 = λ text. IsLevel (suc row) text (t.Binary op x y) in
-    let some = op_level-some op in
+    let Spelled : List ℕ → Type 0 = λ text. IsLevel (suc level) text (t.Binary op x y) in
+    let some = level_some op in
     subst Whole (sym some)
     (subst Spelled (sym (append_assoc left (op_text op) right))
     (operated op [] (subst Left some is_left) some refl is_right))

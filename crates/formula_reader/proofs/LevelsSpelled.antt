@@ -1,0 +1,275 @@
+-- What is read up to a level is spelled so, within the limits.
+use Rattle.std.proofs.Common.{◌≡◌, ◌≤◌, ◌<◌, ◌+◌, ◌-◌, ◌⊎◌, inl, inr, ℕ, zero, suc, true, List, [], ◌∷◌, ◌++◌, Option, Some, None, refl, sym, ap, ◌∙◌, subst, append_assoc, lit<, arith}
+use Rattle.std.specs.Prelude.{◌==◌, option_map}
+use Rattle.std.proofs.lemmas.Bool.{eqb-true, ltb-true}
+use Rattle.std.proofs.lemmas.Option.{same_Some, some_pair_parts}
+use Rattle.calc_model.proofs.GrammarLevels.{level_most, level_some, loosened}
+use Rattle.calc_model.specs.Grammar.{IsLevel, minus, op_level, op_text, operated, percent, plus}
+use Rattle.calc_model.specs.Tokens.{are_blanks}
+use Rattle.calc_model.specs.declared.tree.Op.{Op}
+use Rattle.calc_model.specs.declared.tree.Tree.{Tree}
+use Rattle.calc_model.specs.declared.tree.Tree.TheVariants as t
+use Rattle.formula_reader.specs.declared.operators.Operator.{Operator}
+use Rattle.formula_reader.specs.declared.operators.Operator.TheVariants as o
+use Rattle.formula_reader.specs.declared.signs.Sign.{Sign}
+use Rattle.formula_reader.specs.declared.signs.Sign.TheVariants as signs
+use Rattle.formula_reader.specs.Operators.{level_of, operator_taken}
+use Rattle.formula_reader.specs.Signs.{sign_at, sign_by, sign_found, sign_read, sign_taken, signed_by}
+use Rattle.formula_reader.specs.Unread.{◌>>=◌, Read, Unread, past}
+use Rattle.formula_reader.specs.Operands.{Inside, attached, attached_by, behind_sign, comparison_at, infix_read, inside_at, more_made, operands_at, operator_behind, operators_behind, prefixed_at, prefixed_within, primary_at}
+use Rattle.formula_reader.proofs.Levels.{operands_is}
+use Rattle.formula_reader.proofs.OperatorTexts.{level_behind}
+use Rattle.formula_reader.proofs.OperatorsSpelled.{Taken, level_behind_some, none_says, operator_text, taken_says}
+use Rattle.formula_reader.proofs.PrimariesSpelled.{Sound, Spelled, operator_joined, primary_sound}
+use Rattle.formula_reader.proofs.Steps.{Ended, Past, bind_some, either, map_some, past_says, repeat_says}
+use Rattle.formula_reader.proofs.TreeCounts.{OneMore, binary_counts, minus_counts, open_of, parameters_of, percent_counts, plus_counts, tokens_of}
+
+-- a sign that is taken, and none
+sign_byte : Sign → ℕ
+sign_byte signs.Plus = 43
+sign_byte signs.Minus = 45
+
+record Signed (unread : Unread) (sign : Sign) (after : Unread) : Type 0 where
+  rest : List ℕ
+  joined : unread.bytes ≡ sign_byte sign ∷ rest
+  passed : Past unread.tokens rest after
+
+sign_in : (bytes rest : List ℕ) (sign : Sign) → sign_at bytes ≡ Some (sign, rest) → bytes ≡ sign_byte sign ∷ rest
+unfolding sign_byte
+sign_in [] rest sign h = cc
+sign_in (byte ∷ bytes) rest sign h =
+    either (byte ∷ bytes ≡ sign_byte sign ∷ rest) (byte == 43) (Some (signs.Plus, bytes)) _ (sign, rest)
+    (λ e k. let parts = some_pair_parts signs.Plus sign bytes rest k in ap (λ b. b ∷ bytes) (eqb-true byte 43 e) ∙ ap (λ b. 43 ∷ b) parts.1 ∙ ap (λ s. sign_byte s ∷ rest) parts.0)
+    (λ _ k. either (byte ∷ bytes ≡ sign_byte sign ∷ rest) (byte == 45) (Some (signs.Minus, bytes)) None (sign, rest)
+    (λ e j. let parts = some_pair_parts signs.Minus sign bytes rest j in ap (λ b. b ∷ bytes) (eqb-true byte 45 e) ∙ ap (λ b. 45 ∷ b) parts.1 ∙ ap (λ s. sign_byte s ∷ rest) parts.0)
+    (λ _ j. cc) k) h
+
+-- what taking a sign gives: none, with nothing taken, or a sign
+abbrev SignCase : Unread → Option Sign → Unread → Type 0
+SignCase unread None after = unread ≡ after
+SignCase unread (Some sign) after = Signed unread sign after
+
+sign_case : (unread after : Unread) (sign : Option Sign) (found : Option (Sign × List ℕ)) → sign_at unread.bytes ≡ found → sign_by unread found ≡ Some (sign, after) → SignCase unread sign after
+sign_case unread after sign None e h =
+    let parts = some_pair_parts None sign unread after h in
+    subst (λ s. SignCase unread s after) parts.0 parts.1
+sign_case unread after sign (Some found) e h =
+    let made = map_some (sign_found found.0) (past unread.tokens found.1) (sign, after) h in
+    let signed : Signed unread found.0 made.0 = record {
+      rest = found.1;
+      joined = sign_in unread.bytes found.1 found.0 e;
+      passed = past_says unread.tokens found.1 made.0 made.1;
+    } in
+    subst (λ (r : Option Sign × Unread). SignCase unread r.0 r.1) made.2 signed
+
+taken_case : (unread after : Unread) (sign : Option Sign) → sign_taken unread ≡ Some (sign, after) → SignCase unread sign after
+unfolding sign_taken
+taken_case unread after sign h = sign_case unread after sign (sign_at unread.bytes) refl h
+
+-- the counts of a tree behind a sign, and that it stands behind it
+sign_counts : (sign : Sign) (x : Tree) → OneMore (signed_by sign x) x
+sign_counts signs.Plus x = plus_counts x
+sign_counts signs.Minus x = minus_counts x
+
+sign_level : (sign : Sign) (blanks text : List ℕ) (x : Tree) → are_blanks blanks ≡ true → IsLevel 0 text x → IsLevel 0 (sign_byte sign ∷ (blanks ++ text)) (signed_by sign x)
+unfolding sign_byte
+sign_level signs.Plus blanks text x all is = plus blanks all is
+sign_level signs.Minus blanks text x all is = minus blanks all is
+
+module _ (others : ℕ) (nested : Inside) (depth : ℕ) (sound : Sound others nested.read 6 depth) (may_open : nested.opens ≡ true → 0 < depth) (same_more : nested.more ≡ others) where
+  -- prefix operators
+  behind_sound : (rest : Unread → Read) → Sound others rest 0 (suc depth) → (unread after : Unread) (sign : Option Sign) (read : Tree × Unread) → SignCase unread sign after → behind_sign nested rest (sign, after) ≡ Some read → Spelled others 0 (suc depth) unread read.0 read.1
+  behind_sound rest rest_sound unread after None read same h =
+      primary_sound others nested depth sound may_open same_more unread read (subst (λ u. primary_at nested u ≡ Some read) (sym same) h)
+  behind_sound rest rest_sound unread after (Some sign) read signed h =
+      let inner = bind_some (rest after) (sign_read sign) read h in
+      let s = rest_sound after inner.0 inner.1 in
+      let x = inner.0.0 in
+      let passed = signed.passed in
+      let counts = sign_counts sign x in
+      let cost = counts.tokens in
+      let opened = counts.opens in
+      let most = counts.parameters in
+      let taken = passed.tokens in
+      let tokens = s.tokens in
+      let opens = s.opens in
+      let parameters = s.parameters in
+      let made : (signed_by sign x, inner.0.1) ≡ read = same_Some (signed_by sign x, inner.0.1) read inner.2 in
+      subst (λ (r : Tree × Unread). Spelled others 0 (suc depth) unread r.0 r.1) made record {
+        text = sign_byte sign ∷ (passed.blanks ++ s.text);
+        is_level = sign_level sign passed.blanks s.text x passed.are_blank s.is_level;
+        joined = signed.joined ∙ ap (λ b. sign_byte sign ∷ b) (passed.joined ∙ ap (λ b. passed.blanks ++ b) s.joined ∙ sym (append_assoc passed.blanks s.text inner.0.1.bytes));
+        tokens = omega arith;
+        opens = omega arith;
+        parameters = omega arith;
+      }
+
+  within_sound : (n : ℕ) → Sound others (prefixed_within nested n) 0 (suc depth)
+  unfolding prefixed_within
+  within_sound zero unread read h =
+      let first = bind_some (sign_taken unread) (behind_sign nested (λ rest. None)) read h in
+      behind_sound (λ rest. None) (λ u r none. cc) unread first.0.1 first.0.0 read (taken_case unread first.0.1 first.0.0 first.1) first.2
+  within_sound (suc n) unread read h =
+      let first = bind_some (sign_taken unread) (behind_sign nested (prefixed_within nested n)) read h in
+      behind_sound (prefixed_within nested n) (within_sound n) unread first.0.1 first.0.0 read (taken_case unread first.0.1 first.0.0 first.1) first.2
+
+  -- What is read up to a level is spelled so, and no operator up to the level is behind it that a token is left for.
+  record UpTo (level : ℕ) (unread : Unread) (x : Tree) (after : Unread) : Type 0 where
+    spelled : Spelled others level (suc depth) unread x after
+    ended : 0 < after.tokens → level < level_behind after.bytes
+
+  -- what stands before more operators: at a level that they allow, with no more tokens left than turns
+  record Standing (level : ℕ) (start : Unread) (n : ℕ) (x : Tree) (after : Unread) : Type 0 where
+    at_level : ℕ
+    within : at_level ≤ level
+    spelled : Spelled others at_level (suc depth) start x after
+    allowed : 0 < after.tokens → at_level ≤ level_behind after.bytes
+    turns : after.tokens ≤ n
+
+  loosen : (k level : ℕ) (unread : Unread) (x : Tree) (after : Unread) → k ≤ level → Spelled others k (suc depth) unread x after → Spelled others level (suc depth) unread x after
+  loosen k level unread x after within s = record {
+    text = s.text;
+    is_level = loosened s.text x level k within s.is_level;
+    joined = s.joined;
+    tokens = s.tokens;
+    opens = s.opens;
+    parameters = s.parameters;
+  }
+
+  percent_stands : (level n : ℕ) (start unread after : Unread) (x : Tree) → Taken level unread o.Percent after → Standing level start (suc n) x unread → Standing level start n (t.Percent x) after
+  percent_stands level n start unread after x taken standing =
+      let passed = taken.passed in
+      let tokens = passed.tokens in
+      let turns = standing.turns in
+      let s = loosen standing.at_level 1 start x unread (subst (λ k. standing.at_level ≤ k) taken.here (standing.allowed (omega arith))) standing.spelled in
+      let counts = percent_counts x in
+      let cost = counts.tokens in
+      let opened = counts.opens in
+      let most = counts.parameters in
+      let before = s.tokens in
+      let opens = s.opens in
+      let parameters = s.parameters in
+      record {
+        at_level = 1;
+        within = taken.within;
+        spelled = record {
+          text = s.text ++ (37 ∷ passed.blanks);
+          is_level = percent passed.blanks s.is_level passed.are_blank;
+          joined = s.joined ∙ ap (λ b. s.text ++ b) (taken.joined ∙ ap (λ b. 37 ∷ b) passed.joined) ∙ sym (append_assoc s.text (37 ∷ passed.blanks) after.bytes);
+          tokens = omega arith;
+          opens = omega arith;
+          parameters = omega arith;
+        };
+        allowed = λ some. level_behind_some after.bytes;
+        turns = omega arith;
+      }
+
+  infix_stands : (level n : ℕ) (op : Op) (start unread middle after : Unread) (x y : Tree) → Taken level unread (o.Infix op) middle → Standing level start (suc n) x unread → UpTo (op_level op - 1) middle y after → Standing level start n (t.Binary op x y) after
+  infix_stands level n op start unread middle after x y taken standing right =
+      let passed = taken.passed in
+      let tokens = passed.tokens in
+      let turns = standing.turns in
+      let some = level_some op in
+      let s = loosen standing.at_level (op_level op) start x unread (subst (λ k. standing.at_level ≤ k) taken.here (standing.allowed (omega arith))) standing.spelled in
+      let r = right.spelled in
+      let counts = binary_counts op x y in
+      let cost = counts.tokens in
+      let opened = counts.opens in
+      let most = counts.parameters in
+      let before = s.tokens in
+      let own = r.tokens in
+      let opens = s.opens in
+      let opens_too = r.opens in
+      let parameters = s.parameters in
+      let parameters_too = r.parameters in
+      let Left : ℕ → Type 0 = λ k. IsLevel k s.text x in
+      let Whole : ℕ → Type 0 = λ k. IsLevel k (s.text ++ (op_text op ++ (passed.blanks ++ r.text))) (t.Binary op x y) in
+      record {
+        at_level = op_level op;
+        within = taken.within;
+        spelled = record {
+          text = s.text ++ (op_text op ++ (passed.blanks ++ r.text));
+          is_level = subst Whole (sym some) (operated op passed.blanks (subst Left some s.is_level) some passed.are_blank r.is_level);
+          joined = operator_joined start.bytes s.text (op_text op) taken.rest passed.blanks middle.bytes r.text after.bytes unread.bytes s.joined taken.joined passed.joined r.joined;
+          tokens = omega arith;
+          opens = omega arith;
+          parameters = omega arith;
+        };
+        allowed = λ there. let ended = right.ended there in omega arith;
+        turns = omega arith;
+      }
+
+  module _ (level : ℕ) (most : level ≤ 6) (tighter : (k : ℕ) → k < level → (unread : Unread) (read : Tree × Unread) → operands_at nested k unread ≡ Some read → UpTo k unread read.0 read.1) where
+    attached_stands : (n : ℕ) (operator : Operator) (start unread middle : Unread) (x : Tree) (read : Tree × Unread) → Taken level unread operator middle → Standing level start (suc n) x unread → attached (operands_at nested) operator x middle ≡ Some read → Standing level start n read.0 read.1
+    attached_stands n o.Percent start unread middle x read taken standing h =
+        subst (λ (r : Tree × Unread). Standing level start n r.0 r.1) (same_Some (t.Percent x, middle) read h) (percent_stands level n start unread middle x taken standing)
+    attached_stands n (o.Infix op) start unread middle x read taken standing h =
+        let some = level_some op in
+        let within = taken.within in
+        let right = bind_some (operands_at nested (op_level op - 1) middle) (infix_read (operands_at nested) op x) read h in
+        let spelled = tighter (op_level op - 1) (omega arith) middle right.0 right.1 in
+        subst (λ (r : Tree × Unread). Standing level start n r.0 r.1) (same_Some (t.Binary op x right.0.0, right.0.1) read right.2) (infix_stands level n op start unread middle right.0.1 x right.0.0 taken standing spelled)
+
+    found_stands : (n : ℕ) (start unread middle after : Unread) (x y : Tree) (operator : Option Operator) → operator_taken level unread ≡ Some (operator, middle) → Standing level start (suc n) x unread → attached_by (operands_at nested) x (operator, middle) ≡ Some (Some y, after) → Standing level start n y after
+    found_stands n start unread middle after x y None e standing h = let none = (some_pair_parts None (Some y) middle after h).0 in cc
+    found_stands n start unread middle after x y (Some operator) e standing h =
+        let made = bind_some (attached (operands_at nested) operator x middle) (more_made (operands_at nested)) (Some y, after) h in
+        let parts = some_pair_parts (Some made.0.0) (Some y) made.0.1 after made.2 in
+        let tree = same_Some made.0.0 y parts.0 in
+        let left = parts.1 in
+        let same : made.0 ≡ (y, after) = λ i. (tree i, left i) in
+        subst (λ (r : Tree × Unread). Standing level start n r.0 r.1) same (attached_stands n operator start unread middle x made.0 (taken_says level unread middle operator e) standing made.1)
+
+    turn_stands : (start : Unread) (n : ℕ) (x y : Tree) (unread after : Unread) → Standing level start (suc n) x unread → operator_behind (operands_at nested) level x unread ≡ Some (Some y, after) → Standing level start n y after
+    unfolding operator_behind
+    turn_stands start n x y unread after standing h =
+        let first = bind_some (operator_taken level unread) (attached_by (operands_at nested) x) (Some y, after) h in
+        found_stands n start unread first.0.1 after x y first.0.0 first.1 standing first.2
+
+    -- where it ends, no operator up to the level is taken
+    none_behind : (x : Tree) (unread middle after : Unread) (operator : Option Operator) → operator_taken level unread ≡ Some (operator, middle) → attached_by (operands_at nested) x (operator, middle) ≡ Some (None, after) → (unread ≡ after) × (level < level_behind unread.bytes)
+    none_behind x unread middle after None e h =
+        let none = none_says level unread middle most e in
+        (none.0 ∙ (some_pair_parts None None middle after h).1, none.1)
+    none_behind x unread middle after (Some operator) e h =
+        let made = bind_some (attached (operands_at nested) operator x middle) (more_made (operands_at nested)) (None, after) h in
+        let some = (some_pair_parts (Some made.0.0) None made.0.1 after made.2).0 in
+        cc
+
+    stopped : (x : Tree) (unread after : Unread) → operator_behind (operands_at nested) level x unread ≡ Some (None, after) → (unread ≡ after) × (level < level_behind unread.bytes)
+    unfolding operator_behind
+    stopped x unread after h =
+        let first = bind_some (operator_taken level unread) (attached_by (operands_at nested) x) (None, after) h in
+        none_behind x unread first.0.1 after first.0.0 first.1 first.2
+
+    operators_sound : (start : Unread) (first read : Tree × Unread) → Spelled others 0 (suc depth) start first.0 first.1 → operators_behind (operands_at nested) level first ≡ Some read → UpTo level start read.0 read.1
+    operators_sound start first read s h =
+        let begun : Standing level start first.1.tokens first.0 first.1 = record { at_level = 0; within = omega arith; spelled = s; allowed = λ some. omega arith; turns = omega arith } in
+        let end = repeat_says (operator_behind (operands_at nested) level) (λ x unread after e. (stopped x unread after e).0) (Standing level start) (turn_stands start) first.1.tokens first.0 read.0 first.1 read.1 begun h in
+        let last = end.holds in
+        let turns = last.turns in
+        record {
+          spelled = loosen last.at_level level start read.0 read.1 last.within last.spelled;
+          ended = elim end.stops [
+            | inl stops ↦ λ some. (stopped read.0 read.1 read.1 stops).1
+            | inr none ↦ λ some. absurd (omega arith)
+          ];
+        }
+
+  up_to : (bound level : ℕ) → level < bound → level ≤ 6 → (unread : Unread) (read : Tree × Unread) → operands_at nested level unread ≡ Some read → UpTo level unread read.0 read.1
+  up_to zero level less most unread read h = absurd (omega arith)
+  up_to (suc bound) level less most unread read h =
+      let first = bind_some (prefixed_at nested unread) (operators_behind (operands_at nested) level) read (sym (operands_is nested level unread) ∙ h) in
+      operators_sound level most (λ k tight u r e. up_to bound k (omega arith) (omega arith) u r e) unread first.0 read (within_sound unread.tokens unread first.0 first.1) first.2
+
+  comparisons_sound : Sound others (operands_at nested 6) 6 (suc depth)
+  comparisons_sound unread read h = (up_to 7 6 (lit< tt) (lit< tt) unread read h).spelled
+
+pub comparison_sound : (others depth : ℕ) → Sound others (comparison_at others depth) 6 depth
+unfolding comparison_at
+comparison_sound others zero unread read h = cc
+comparison_sound others (suc depth) unread read h =
+    comparisons_sound others (inside_at others depth) depth (comparison_sound others depth) (λ opens. ltb-true 0 depth opens) refl unread read h
+
+pub inside_sound : (others depth : ℕ) → Sound others (operands_at (inside_at others depth) 6) 6 (suc depth)
+inside_sound others depth = comparisons_sound others (inside_at others depth) depth (comparison_sound others depth) (λ opens. ltb-true 0 depth opens) refl
