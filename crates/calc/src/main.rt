@@ -1,7 +1,7 @@
 //! `calc BOOK` calculates a book's cells by the script on standard input.
 #![tactic(auto)]
 
-use calc_cli::run;
+use calc_cli::{BAD_WORDS, NO_MEMORY, message, run};
 use calc_io::{PipeDesk, PipeSink};
 use calc_model::Text;
 use std::env;
@@ -25,13 +25,12 @@ fn main(rt: HostRuntime) -> ExitCode {
             let mut sink = PipeSink::new(io::writer(&rt));
             run(rt.alloc(), &words, &mut desk, &mut sink)
         }
-        Err(error) if error.kind() == ErrorKind::OutOfMemory => 5,
-        Err(_) => 2,
+        Err(error) if error.kind() == ErrorKind::OutOfMemory => NO_MEMORY,
+        Err(_) => BAD_WORDS,
     };
-    let _ = match status {
-        2 => eprintln!(rt; "usage: calc BOOK"),
-        5 => eprintln!(rt; "out of memory"),
-        _ => Ok(()),
-    };
+    let told = message(status);
+    if !told.is_empty() {
+        let _ = eprintln!(rt; "{told}");
+    }
     ExitCode::from(status)
 }

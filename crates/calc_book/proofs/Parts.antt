@@ -1,5 +1,5 @@
 -- The parts of a text have their bytes from it, and there are no more lines than bytes.
-use Rattle.std.proofs.Common.{◌≡◌, ℕ, ◌+◌, ◌<◌, ◌≤◌, ◌==◌, ◌&&◌, not, nat_lt, Bool, true, false, cond, nat_le, List, [], ◌∷◌, zero, suc, length, get_or, map, max, sum, ◌*◌, refl, arith}
+use Rattle.std.proofs.Common.{◌≡◌, ℕ, ◌+◌, ◌<◌, ◌≤◌, ◌==◌, ◌&&◌, not, nat_lt, Bool, true, false, cond, nat_le, List, [], ◌∷◌, zero, suc, length, get_or, max, ◌*◌, refl, arith}
 use Rattle.std.proofs.lemmas.Bool.{leb-true}
 use Rattle.std.specs.List.{list_all, onto_first, slice_split}
 use Rattle.std.specs.Str.{IsUtf8}
@@ -8,7 +8,7 @@ use Rattle.std.proofs.lemmas.Str.{IsUtf8-from_ascii}
 use Rattle.std.proofs.lemmas.List.Splits.{length-slice_split}
 use Rattle.byte_cuts.specs.Lines.{lines_of}
 use Rattle.byte_cuts.specs.declared.line.TheConstants.{LINE_FEED}
-use Rattle.calc_book.specs.declared.plain.TheConstants.{COMMA, MOST_BYTES, MOST_FIELDS}
+use Rattle.calc_book.specs.declared.limits.TheConstants.{COMMA, MOST_BYTES, MOST_FIELDS}
 use Rattle.calc_book.specs.BookForm.{fields_in, is_plain_byte, is_plain_record, is_plain_book}
 
 both : (a b : Bool) → a ≡ true → b ≡ true → (a && b) ≡ true
@@ -55,7 +55,8 @@ few_lines (x ∷ xs) = omega (arith, onto_length x (length xs) (lines_of xs) (x 
 
 -- how many fields the records have
 abbrev pub field_count : List (List ℕ) → ℕ
-field_count records = sum (map (λ text. length (fields_in text)) records)
+field_count [] = 0
+field_count (text ∷ records) = length (fields_in text) + field_count records
 
 longer_field : (x : ℕ) (parts : List (List ℕ)) (ends : Bool) → length (cond ends ([] ∷ parts) (onto_first x parts)) ≤ 1 + max 1 (length parts)
 longer_field x parts true = omega arith
@@ -71,7 +72,10 @@ longer_record x xs = omega (arith, longer_field x (fields_in xs) (x == COMMA), o
 onto_count : (x : ℕ) (records : List (List ℕ)) (ends : Bool) → field_count (cond ends ([] ∷ records) (onto_first x records)) ≤ field_count records + 2
 onto_count x records true = omega arith
 onto_count x [] false = omega (arith, longer_record x [])
-onto_count x (record' ∷ records) false = omega (arith, longer_record x record')
+onto_count x (text ∷ records) false =
+    let more : length (fields_in (x ∷ text)) ≤ 1 + length (fields_in text) = longer_record x text in
+    let sums : length (fields_in (x ∷ text)) + field_count records ≤ (length (fields_in text) + field_count records) + 2 = omega arith in
+    sums
 
 -- there are at most twice as many fields as bytes
 pub few_fields_in_all : (xs : List ℕ) → field_count (lines_of xs) ≤ 2 * length xs
@@ -81,32 +85,7 @@ few_fields_in_all (x ∷ xs) = omega (arith, onto_count x (lines_of xs) (x == LI
 small : (b : ℕ) → nat_le b 127 ≡ true → b < 128
 small b h = grind (arith, nat_tests)
 
-plain_-- how many fields the records have
-abbrev pub field_count : List (List ℕ) → ℕ
-field_count records = sum (map (λ text. length (fields_in text)) records)
-
-longer_field : (x : ℕ) (parts : List (List ℕ)) (ends : Bool) → length (cond ends ([] ∷ parts) (onto_first x parts)) ≤ 1 + max 1 (length parts)
-longer_field x parts true = omega arith
-longer_field x [] false = omega arith
-longer_field x (part ∷ parts) false = omega arith
-
-one_field : (xs : List ℕ) → 1 ≤ length (fields_in xs)
-one_field xs = omega (arith, length-slice_split (λ byte. byte == COMMA) xs)
-
-longer_record : (x : ℕ) (xs : List ℕ) → length (fields_in (x ∷ xs)) ≤ 1 + length (fields_in xs)
-longer_record x xs = omega (arith, longer_field x (fields_in xs) (x == COMMA), one_field xs)
-
-onto_count : (x : ℕ) (records : List (List ℕ)) (ends : Bool) → field_count (cond ends ([] ∷ records) (onto_first x records)) ≤ field_count records + 2
-onto_count x records true = omega arith
-onto_count x [] false = omega (arith, longer_record x [])
-onto_count x (record' ∷ records) false = omega (arith, longer_record x record')
-
--- there are at most twice as many fields as bytes
-pub few_fields_in_all : (xs : List ℕ) → field_count (lines_of xs) ≤ 2 * length xs
-few_fields_in_all [] = omega arith
-few_fields_in_all (x ∷ xs) = omega (arith, onto_count x (lines_of xs) (x == LINE_FEED), few_fields_in_all xs)
-
-small : (b : ℕ) → is_plain_byte b ≡ true → b < 128
+plain_small : (b : ℕ) → is_plain_byte b ≡ true → b < 128
 plain_small b h = small b (first_of (nat_le b 127) (not (b == 34)) (first_of (nat_le b 127 && not (b == 34)) (not (b == 13)) h))
 
 plain_ascii : (xs : List ℕ) → list_all is_plain_byte xs ≡ true → (i : ℕ) → get_or xs i 0 < 128
@@ -130,8 +109,11 @@ module _ (bytes : List ℕ) (h : is_plain_book bytes ≡ true) where
   both_of_bytes : (short && list_all is_plain_byte bytes) ≡ true
   both_of_bytes = first_of (short && list_all is_plain_byte bytes) (list_all is_plain_record (lines_of bytes)) h
 
+  pub short_bytes : length bytes ≤ MOST_BYTES
+  short_bytes = leb-true (length bytes) MOST_BYTES (first_of short (list_all is_plain_byte bytes) both_of_bytes)
+
   pub short_book : length (lines_of bytes) ≤ MOST_BYTES
-  short_book = omega (arith, few_lines bytes, leb-true (length bytes) MOST_BYTES (first_of short (list_all is_plain_byte bytes) both_of_bytes))
+  short_book = omega (arith, few_lines bytes, short_bytes)
 
   pub plain_lines : list_all (list_all is_plain_byte) (lines_of bytes) ≡ true
   plain_lines = lines_pass is_plain_byte bytes (second_of short (list_all is_plain_byte bytes) both_of_bytes)

@@ -9,7 +9,7 @@ use Rattle.calc_addr.specs.Places.{Place}
 use Rattle.calc_model.specs.declared.content.Content.{Content}
 use Rattle.calc_model.specs.Books.{Book, with_content}
 use Rattle.byte_cuts.specs.Lines.{lines_of}
-use Rattle.calc_book.specs.declared.plain.TheConstants.{COMMA, MOST_BYTES, MOST_FIELDS}
+use Rattle.calc_book.specs.declared.limits.TheConstants.{COMMA, MOST_BYTES, MOST_FIELDS}
 
 -- the fields of a record
 abbrev pub fields_in : List ℕ → List (List ℕ)

@@ -53,6 +53,7 @@ fn read_records(alloc: Global, bytes: &[u8]) -> Result<CellMap, NoMemory>
 }
 
 /// Sets the cells of a row to the fields of a record.
+#[tactic(auto, using(calc_model::proofs::BooksKept::longer_by_one))]
 fn read_record(alloc: Global, book: &mut CellMap, row: u32, text: &[u8]) -> Result<(), NoMemory>
     requires first { 1 ≤ row }
     requires last { row ≤ LAST_ROW }

@@ -4,17 +4,9 @@ ghost use Rattle.std.specs.List.{list_all};
 ghost use Rattle.calc_book.specs.BookForm.{fields_in, is_plain_byte, is_plain_record, is_plain_book};
 ghost use Rattle.byte_cuts.specs.Lines.{lines_of};
 
+use crate::limits::{MOST_BYTES, MOST_FIELDS};
 use crate::splitting::fields_of;
 use byte_cuts::lines;
-
-/// The most bytes that a book may have so far.
-pub const MOST_BYTES: usize = 65_535;
-
-/// The byte between the fields of a record.
-pub(crate) const COMMA: u8 = b',';
-
-/// The most fields that a record may have.
-pub(crate) const MOST_FIELDS: usize = 1_024;
 
 /// Whether the book is one that can be read so far.
 pub(crate) fn is_plain_book(bytes: &[u8]) -> bool

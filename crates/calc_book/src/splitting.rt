@@ -3,7 +3,7 @@ ghost use Rattle.std.specs.Iterator.{YieldsFirstBy, item_count};
 ghost use Rattle.calc_book.specs.BookForm.{fields_in};
 ghost use Rattle.calc_book.specs.FieldsLeft.{fields_left};
 
-use crate::plain::COMMA;
+use crate::limits::COMMA;
 use byte_cuts::position_of;
 use std::marker::Model;
 

@@ -1,79 +1,105 @@
 -- How the inputs lead to the end of a run.
-use Rattle.std.proofs.Common.{rules, [], ◌≡◌, ℕ, ◌+◌, ◌≤◌, ◌<◌, true, false, not, ◌&&◌, cond, List, length, take, drop, Option, None, Some, refl, sym, ap, subst, ◌∙◌, arith, nat_lt, nat_le, ◌⊎◌, inl, inr}
-use Rattle.std.specs.Io.KnownBytes.{Keeps}
+use Rattle.std.proofs.Common.{[], ◌≡◌, ℕ, ◌+◌, ◌≤◌, ◌<◌, Bool, true, false, not, ◌&&◌, cond, List, length, take, drop, Option, None, Some, refl, sym, ap, subst, ◌∙◌, arith, nat_lt, nat_le, ◌⊎◌, inl, inr}
 use Rattle.std.proofs.KnownBytes.{Appends-nil}
 use Rattle.std.proofs.lemmas.List.{drop_all}
 use Rattle.std.proofs.lemmas.Bool.{lt-leb, ltb-true, both_ways, leb-true}
 use Rattle.std.proofs.lemmas.Bool.Decides.{leb_tells, nat_tests}
 use Rattle.std.specs.List.{list_all}
-use Rattle.calc_book.specs.BookForm.{Cells, is_plain_book, is_plain_byte, is_plain_record, book_cells}
+use Rattle.byte_cuts.specs.Lines.{lines_of}
+use Rattle.calc_model.specs.Books.{Book}
+use Rattle.formula_reader.specs.Fields.{field_of}
+use Rattle.calc_book.specs.declared.limits.TheConstants.{MOST_BYTES}
+use Rattle.calc_book.specs.BookForm.{book_read, is_plain_book, is_plain_byte, is_plain_record}
 use Rattle.calc_book.proofs.Parts.{first_of}
-use Rattle.calc_cli.proofs.Limits.{longer, whole}
-use Rattle.calc_cli.specs.Endings.{Ends, TakesInputs, ending, calculated, not_built, too_long, IsLoaded}
-use Rattle.calc_script.specs.Lines.{lines_of}
+use Rattle.calc_cli.specs.declared.limits.TheConstants.{MOST_SCRIPT_BYTES}
+use Rattle.calc_cli.specs.declared.status.TheConstants.{BOOK_REFUSED, LINE_REFUSED, SCRIPT_TOO_LONG}
+use Rattle.calc_cli.specs.Ending.{Ending, ending, calculated, not_built, too_long}
+use Rattle.calc_cli.specs.Inputs.{IsLoaded}
+use Rattle.calc_io.specs.Desk.{Books}
+use Rattle.calc_cli.specs.Runs.{Ends, LeavesInputs, Serves, Tells}
+use Rattle.calc_cli.specs.Words.{book_name}
+use Rattle.calc_cli.proofs.TakenBytes.{longer, whole}
 
-pub too_long_ends : (old : Option (List ℕ)) → Ends 7 old old too_long
+pub too_long_ends : (old : Option (List ℕ)) → Ends SCRIPT_TOO_LONG old old too_long
 unfolding too_long
 too_long_ends old = record {
-  done = λ a b d. refl;
-  all = λ a b d. Appends-nil old;
+  done = λ _. refl;
+  all = λ _. Appends-nil old;
   prefix = ([], [], refl, Appends-nil old);
-  nothing = λ e. Appends-nil old;
+  nothing = λ _. Appends-nil old;
 }
 
-pub ends_not_built : (book script : List ℕ) → is_plain_book book ≡ false → not_built ≡ ending book script
-ends_not_built book script bad = ap (λ b. cond (not b) not_built (cond (nat_lt 16777216 (length script)) too_long (calculated (book_cells book) script))) (sym bad)
+-- the end by the tests of the book and of the script
+abbrev by_tests : List ℕ → List ℕ → Bool → Bool → Ending
+by_tests book script plain long = cond (not plain) not_built (cond long too_long (calculated field_of (book_read field_of book) script))
 
-pub ends_too_long : (book script : List ℕ) → is_plain_book book ≡ true → nat_lt 16777216 (length script) ≡ true → too_long ≡ ending book script
+pub ends_not_built : (book script : List ℕ) → is_plain_book book ≡ false → not_built ≡ ending field_of book script
+ends_not_built book script bad = ap (λ b. by_tests book script b (nat_lt MOST_SCRIPT_BYTES (length script))) (sym bad)
+
+pub ends_too_long : (book script : List ℕ) → is_plain_book book ≡ true → nat_lt MOST_SCRIPT_BYTES (length script) ≡ true → too_long ≡ ending field_of book script
 ends_too_long book script good long =
-    ap (λ b. cond b too_long (calculated (book_cells book) script)) (sym long)
-    ∙ ap (λ b. cond (not b) not_built (cond (nat_lt 16777216 (length script)) too_long (calculated (book_cells book) script))) (sym good)
+    ap (by_tests book script true) (sym long)
+    ∙ ap (λ b. by_tests book script b (nat_lt MOST_SCRIPT_BYTES (length script))) (sym good)
 
-pub ends_answered : (book script taken : List ℕ) (cells : Cells) → is_plain_book book ≡ true → nat_lt 16777216 (length script) ≡ false → cells ≡ book_cells book → taken ≡ script → calculated cells taken ≡ ending book script
-ends_answered book script taken cells good short cells_are taken_is =
-    ap (λ c. calculated c taken) cells_are
-    ∙ ap (calculated (book_cells book)) taken_is
-    ∙ ap (λ b. cond b too_long (calculated (book_cells book) script)) (sym short)
-    ∙ ap (λ b. cond (not b) not_built (cond (nat_lt 16777216 (length script)) too_long (calculated (book_cells book) script))) (sym good)
-
-pub script_kept : (old new : Option (List ℕ)) (script : List ℕ) → Keeps old new → old ≡ Some script → new ≡ Some script
-script_kept old new script kept told = search (rules, kept, told)
+pub ends_answered : (book script taken : List ℕ) (loaded : Book) → is_plain_book book ≡ true → nat_lt MOST_SCRIPT_BYTES (length script) ≡ false → loaded ≡ book_read field_of book → taken ≡ script → calculated field_of loaded taken ≡ ending field_of book script
+ends_answered book script taken loaded good short loaded_is taken_is =
+    ap (λ b. calculated field_of b taken) loaded_is
+    ∙ ap (calculated field_of (book_read field_of book)) taken_is
+    ∙ ap (by_tests book script true) (sym short)
+    ∙ ap (λ b. by_tests book script b (nat_lt MOST_SCRIPT_BYTES (length script))) (sym good)
 
 -- the bytes taken of a book, up to one more than it may have, tell whether it can be read
-too_big : (book : List ℕ) → 65535 < length book → is_plain_book book ≡ false
-too_big book more = ap (λ few. few && list_all is_plain_byte book && list_all is_plain_record (lines_of book)) (lt-leb (length book) 65535 more)
+too_big : (book : List ℕ) → MOST_BYTES < length book → is_plain_book book ≡ false
+too_big book more = ap (λ few. few && list_all is_plain_byte book && list_all is_plain_record (lines_of book)) (lt-leb (length book) MOST_BYTES more)
 
-big_loaded : (cells : Option Cells) (book taken : List ℕ) → is_plain_book taken ≡ false → is_plain_book book ≡ false → IsLoaded cells taken → IsLoaded cells book
-big_loaded None book taken small big loaded = big
-big_loaded (Some cells) book taken small big loaded = absurd (both_ways (is_plain_book taken) small loaded.0)
+big_loaded : (loaded : Option Book) (book taken : List ℕ) → is_plain_book taken ≡ false → is_plain_book book ≡ false → IsLoaded loaded taken → IsLoaded loaded book
+big_loaded None book taken small big is = big
+big_loaded (Some loaded) book taken small big is = absurd (both_ways (is_plain_book taken) small is.0)
 
-by_size : (cells : Option Cells) (book taken : List ℕ) → taken ≡ take (65535 + 1) book → ((nat_le (length taken) 65535 ≡ true) × (length taken ≤ 65535)) ⊎ ((nat_le (length taken) 65535 ≡ false) × (65535 < length taken)) → IsLoaded cells taken → IsLoaded cells book
-by_size cells book taken taken_is (inl (t, few)) loaded = subst (IsLoaded cells) (whole 65535 taken book taken_is few) loaded
-by_size cells book taken taken_is (inr (t, more)) loaded =
-    big_loaded cells book taken (too_big taken more) (too_big book (ltb-true 65535 (length book) (longer 65535 taken book taken_is more))) loaded
+by_size : (loaded : Option Book) (book taken : List ℕ) → taken ≡ take (MOST_BYTES + 1) book → ((nat_le (length taken) MOST_BYTES ≡ true) × (length taken ≤ MOST_BYTES)) ⊎ ((nat_le (length taken) MOST_BYTES ≡ false) × (MOST_BYTES < length taken)) → IsLoaded loaded taken → IsLoaded loaded book
+by_size loaded book taken taken_is (inl (t, few)) is = subst (IsLoaded loaded) (whole MOST_BYTES taken book taken_is few) is
+by_size loaded book taken taken_is (inr (t, more)) is =
+    big_loaded loaded book taken (too_big taken more) (too_big book (ltb-true MOST_BYTES (length book) (longer MOST_BYTES taken book taken_is more))) is
 
-pub loaded_whole : (cells : Option Cells) (book taken : List ℕ) → taken ≡ take (65535 + 1) book → IsLoaded cells taken → IsLoaded cells book
-loaded_whole cells book taken taken_is loaded = by_size cells book taken taken_is (leb_tells (length taken) 65535) loaded
+pub loaded_whole : (loaded : Option Book) (book taken : List ℕ) → taken ≡ take (MOST_BYTES + 1) book → IsLoaded loaded taken → IsLoaded loaded book
+loaded_whole loaded book taken taken_is is = by_size loaded book taken taken_is (leb_tells (length taken) MOST_BYTES) is
 
 -- an input within its limit has no byte behind it
 
 not_beyond : (most n : ℕ) → nat_lt most n ≡ false → n ≤ most
 not_beyond most n h = grind (arith, nat_tests)
 
-pub book_ends : (book : List ℕ) → is_plain_book book ≡ true → drop 65536 book ≡ []
+pub book_ends : (book : List ℕ) → is_plain_book book ≡ true → drop (MOST_BYTES + 1) book ≡ []
 book_ends book plain =
-    drop_all 65536 book (omega (
+    drop_all (MOST_BYTES + 1) book (omega (
       arith,
-      leb-true (length book) 65535 (first_of (nat_le (length book) 65535) (list_all is_plain_byte book) (first_of (nat_le (length book) 65535 && list_all is_plain_byte book) (list_all is_plain_record (lines_of book)) plain)),
+      leb-true (length book) MOST_BYTES (first_of (nat_le (length book) MOST_BYTES) (list_all is_plain_byte book) (first_of (nat_le (length book) MOST_BYTES && list_all is_plain_byte book) (list_all is_plain_record (lines_of book)) plain)),
     ))
 
-pub script_ends : (script : List ℕ) → nat_lt 16777216 (length script) ≡ false → drop 16777217 script ≡ []
-script_ends script short = drop_all 16777217 script (omega (arith, not_beyond 16777216 (length script) short))
+pub script_ends : (script : List ℕ) → nat_lt MOST_SCRIPT_BYTES (length script) ≡ false → drop (MOST_SCRIPT_BYTES + 1) script ≡ []
+script_ends script short = drop_all (MOST_SCRIPT_BYTES + 1) script (omega (arith, not_beyond MOST_SCRIPT_BYTES (length script) short))
 
-pub too_long_taken : (script : List ℕ) (book_left script_left : Option (List ℕ)) → script_left ≡ Some (drop 16777217 script) → TakesInputs 7 script book_left script_left
-too_long_taken script book_left script_left left = record {
+pub too_long_left : (script : List ℕ) (book_left script_left : Option (List ℕ)) → script_left ≡ Some (drop (MOST_SCRIPT_BYTES + 1) script) → LeavesInputs SCRIPT_TOO_LONG script book_left script_left
+too_long_left script book_left script_left left = record {
   book_ends = λ few. absurd (omega arith);
   script_ends = λ few. absurd (omega arith);
   untaken = λ six. absurd (omega arith);
   cut_off = λ _. left;
 }
+
+-- a run that stopped before its inputs were taken says nothing of what is left
+pub stopped_early : (status : ℕ) (script : List ℕ) (book_left script_left : Option (List ℕ)) → LINE_REFUSED < status → status < BOOK_REFUSED → LeavesInputs status script book_left script_left
+stopped_early status script book_left script_left more less = record {
+  book_ends = λ few. absurd (omega arith);
+  script_ends = λ few. absurd (omega arith);
+  untaken = λ six. absurd (omega arith);
+  cut_off = λ seven. absurd (omega arith);
+}
+
+pub told_of : (books : Option Books) (script_left : Option (List ℕ)) (words : List (List ℕ)) (book script name : List ℕ) → Serves books script_left words book script → book_name words ≡ Some name → Tells books script_left name book script
+told_of books script_left words book script name serves named =
+    let same : serves.name ≡ name = cc (serves.is_named, named) in
+    subst (λ n. Tells books script_left n book script) same serves.told
+
+pub not_served : (books : Option Books) (script_left : Option (List ℕ)) (words : List (List ℕ)) (book script : List ℕ) → Serves books script_left words book script → book_name words ≡ None → ⊥
+not_served books script_left words book script serves none = cc (serves.is_named, none)

@@ -1,6 +1,6 @@
 pub mod Joining
 pub mod Loaded
 pub mod Ended
-pub mod Limits
+pub mod TakenBytes
 pub mod Pieces
 pub mod Progress

@@ -7,7 +7,7 @@ use Rattle.std.proofs.KnownBytes.{Appends-kept}
 use Rattle.calc_io.specs.Sink.{HasRoom, RoomFalls}
 use Rattle.calc_io.proofs.KnownBytes.{Appends-taken}
 use Rattle.calc_io.proofs.Rooms.{HasRoom-rest}
-use Rattle.calc_cli.specs.Writes.{GrowsWithin}
+use Rattle.calc_cli.specs.Runs.{GrowsWithin}
 
 -- what holds anyway holds at an error
 pub at_error : {T E : Type 0} (r : Result T E) (P : Type 0) → P → OnErr r P

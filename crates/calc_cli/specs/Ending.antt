@@ -8,7 +8,7 @@ use Rattle.calc_model.specs.Books.{Book}
 use Rattle.calc_model.specs.declared.content.Content.{Content}
 use Rattle.calc_book.specs.BookForm.{book_read, is_plain_book}
 use Rattle.calc_cli.specs.declared.status.TheConstants.{BOOK_REFUSED, DONE, LINE_REFUSED, SCRIPT_TOO_LONG}
-use Rattle.calc_cli.specs.declared.inputs.TheConstants.{MOST_SCRIPT_BYTES}
+use Rattle.calc_cli.specs.declared.limits.TheConstants.{MOST_SCRIPT_BYTES}
 use Rattle.calc_cli.specs.Output.{Session, has_refusal, loaded, output}
 
 -- the status of the end, and all that is written before it

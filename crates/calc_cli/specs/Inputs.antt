@@ -4,7 +4,7 @@ use Rattle.std.specs.declared.alloc.Global.{Global}
 use Rattle.calc_model.specs.Books.{Book}
 use Rattle.calc_book.specs.BookForm.{book_read, is_plain_book}
 use Rattle.formula_reader.specs.Fields.{field_of}
-use Rattle.calc_cli.specs.declared.inputs.TheConstants.{MOST_SCRIPT_BYTES}
+use Rattle.calc_cli.specs.declared.limits.TheConstants.{MOST_SCRIPT_BYTES}
 use Rattle.calc_cli.specs.declared.input_bytes.Input.{Input}
 use Rattle.calc_cli.specs.declared.input_bytes.Input.TheVariants.{BookInput, ScriptInput}
 use Rattle.calc_cli.specs.declared.inputs.Inputs.{Inputs}

@@ -6,9 +6,9 @@ use Rattle.calc_io.specs.Faults.{Rose}
 use Rattle.calc_io.specs.Sink.{HasRoom}
 use Rattle.calc_model.specs.declared.content.Content.{Content}
 use Rattle.calc_model.specs.Field.{ReadsFields}
-use Rattle.calc_book.specs.declared.plain.TheConstants.{MOST_BYTES}
+use Rattle.calc_book.specs.declared.limits.TheConstants.{MOST_BYTES}
 use Rattle.calc_cli.specs.declared.status.TheConstants.{BOOK_REFUSED, DESK_FAILED, LINE_REFUSED, NO_MEMORY, SCRIPT_TOO_LONG, SINK_FAILED}
-use Rattle.calc_cli.specs.declared.inputs.TheConstants.{MOST_SCRIPT_BYTES}
+use Rattle.calc_cli.specs.declared.limits.TheConstants.{MOST_SCRIPT_BYTES}
 use Rattle.calc_cli.specs.Ending.{Ending, ending}
 use Rattle.calc_cli.specs.Words.{book_name}
 

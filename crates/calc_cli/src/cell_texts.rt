@@ -5,8 +5,7 @@ ghost use Rattle.calc_model.specs.Results.{shown_by};
 ghost use Rattle.cell_map.specs.ResultMap.{results_of};
 
 use calc_addr::{Cell, NoMemory};
-use calc_model::show;
-use cell_map::{CellMap, ResultMap, shown};
+use cell_map::{CellMap, ResultMap, show_cell};
 use formula_printer::print_content;
 
 /// A text for each cell.
@@ -31,7 +30,7 @@ impl CellTexts for Shown<'_> {
     ghost texts = { λ all. shown_texts (shown_by all.book.now (results_of all.results.now)) };
 
     fn push(&self, cell: Cell, out: &mut Vec<u8>) -> Result<(), NoMemory> {
-        show(shown(self.book, self.results, cell), out)
+        show_cell(self.book, self.results, cell, out)
     }
 }
 

@@ -4,7 +4,8 @@ ghost use Rattle.calc_cli.specs.Ending.{calculated, not_built};
 ghost use Rattle.calc_cli.specs.Inputs.{IsLeft, IsShort, ending_of};
 ghost use Rattle.calc_cli.specs.Runs.{CountsFaults, Ends, LeavesInputs, TakesWhole};
 
-use crate::inputs::{Inputs, MOST_SCRIPT_BYTES};
+use crate::inputs::Inputs;
+use crate::limits::MOST_SCRIPT_BYTES;
 use crate::output::write_output;
 use crate::status::{BAD_WORDS, BOOK_REFUSED, DESK_FAILED, DONE, LINE_REFUSED, NO_MEMORY, SCRIPT_TOO_LONG, SINK_FAILED};
 use crate::written::write_all;

@@ -5,7 +5,7 @@ ghost use Rattle.calc_io.specs.Faults.{HasFailed, Rose};
 ghost use Rattle.calc_cli.specs.Inputs.{left_of, other};
 ghost use Rattle.calc_cli.specs.Runs.{TakesAtMost};
 
-use calc_io::{Desk, DeviceFault, Failed};
+use calc_io::{Desk, DeviceFault};
 use std::alloc::Global;
 
 /// One of the two inputs of a run.
@@ -45,19 +45,18 @@ pub(crate) fn read_all<D: Desk>(
     let mut buf = [0u8; 4096];
     'pieces: while bytes.len() <= limit {
         let room = buf.len().min(limit + 1 - bytes.len());
-        let count = read_some(desk, input, &mut buf[..room]).map_err(DeviceFault::Failed)?;
+        bytes.try_reserve(room).map_err(DeviceFault::NoMemory)?;
+        let count = read_some(desk, input, &mut buf[..room])?;
         if count == 0 {
             return Ok(bytes);
         }
-        bytes
-            .extend_from_slice(&buf[..count])
-            .map_err(DeviceFault::NoMemory)?;
+        bytes.extend_from_slice(&buf[..count]).unwrap();
     }
     Ok(bytes)
 }
 
 /// One read of an input.
-fn read_some<D: Desk>(desk: &mut D, input: Input, buf: &mut [u8]) -> Result<usize, Failed>
+fn read_some<D: Desk>(desk: &mut D, input: Input, buf: &mut [u8]) -> Result<usize, DeviceFault>
     ensures bound { ReadsAtMost result buf.new }
     ensures bytes { ReadConsumes (left_of input (D.book_left desk.old) (D.script_left desk.old))
         (left_of input (D.book_left desk.new) (D.script_left desk.new)) result buf.new }
@@ -69,8 +68,12 @@ fn read_some<D: Desk>(desk: &mut D, input: Input, buf: &mut [u8]) -> Result<usiz
     ensures no_fault { IsTrue (D.calm desk.old) → D.faults desk.new ≡ D.faults desk.old }
     ensures same_calm { D.calm desk.new ≡ D.calm desk.old }
 {
-    match input {
+    let read = match input {
         Input::BookInput => desk.read_book(buf),
         Input::ScriptInput => desk.read_script(buf),
+    };
+    match read {
+        Ok(count) => Ok(count),
+        Err(failed) => Err(DeviceFault::Failed(failed)),
     }
 }

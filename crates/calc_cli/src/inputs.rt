@@ -1,4 +1,4 @@
-ghost use Rattle.std.specs.Prelude.{◌≡◌, ◌≤◌, ◌+◌, ◌⊎◌, length, drop, Some, IfOk, OnOk, IsTrue, IsSome, IfSome, List, ℕ};
+ghost use Rattle.std.specs.Prelude.{◌≡◌, ◌≤◌, ◌+◌, ◌⊎◌, length, drop, Some, IfOk, OnOk, OnErr, IsTrue, IsSome, IfSome, List, ℕ};
 ghost use Rattle.std.specs.Io.KnownBytes.{Keeps};
 ghost use Rattle.calc_io.specs.Desk.{told_book, IsUnknown};
 ghost use Rattle.calc_io.specs.Faults.{HasFailed, Rose};
@@ -8,15 +8,12 @@ ghost use Rattle.calc_cli.specs.Inputs.{IsLeft, IsLoaded, IsShort, IsTaken, endi
 ghost use Rattle.calc_cli.specs.Runs.{IsEnding, TakesAtMost, Tells};
 
 use crate::input_bytes::{Input, read_all};
-use calc_addr::NoMemory;
+use crate::limits::MOST_SCRIPT_BYTES;
 use calc_book::{BookFault, MOST_BYTES, read_book};
 use calc_io::{Desk, DeviceFault};
 use calc_model::Text;
 use cell_map::CellMap;
 use std::alloc::Global;
-
-/// The most bytes that a script may have.
-pub(crate) const MOST_SCRIPT_BYTES: usize = 16_777_216;
 
 /// What the desk gave.
 #[derive(Drop)]
@@ -30,13 +27,14 @@ pub(crate) enum Inputs {
 }
 
 /// The book of these bytes, unless they have a form that can't be read so far.
-fn book_of(alloc: Global, bytes: &[u8]) -> Result<Option<CellMap>, NoMemory>
-    ensures { IfOk result (λ book. IsLoaded book bytes.now) }
+fn book_of(alloc: Global, bytes: &[u8]) -> Result<Option<CellMap>, DeviceFault>
+    ensures read { IfOk result (λ book. IsLoaded book bytes.now) }
+    ensures memory { HasFailed result → ⊥ }
 {
     match read_book(alloc, bytes) {
         Ok(book) => Ok(Some(book)),
         Err(BookFault::NotBuilt) => Ok(None),
-        Err(BookFault::NoMemory(refused)) => Err(refused),
+        Err(BookFault::NoMemory(refused)) => Err(DeviceFault::NoMemory(refused)),
     }
 }
 
@@ -64,6 +62,26 @@ fn read_script<D: Desk>(alloc: Global, desk: &mut D) -> Result<Option<Vec<u8>>, 
     Ok(Some(script))
 }
 
+/// Opens the book of that name.
+fn open<D: Desk>(desk: &mut D, name: &Text) -> Result<(), DeviceFault>
+    ensures opened { (bytes : List ℕ) → told_book (D.books desk.old) name.now ≡ Some bytes
+        → OnOk result (D.book_left desk.new ≡ Some bytes) }
+    ensures unknown { IsUnknown (D.books desk.old) name.now → HasFailed result }
+    ensures still_open { OnErr result (Keeps (D.book_left desk.old) (D.book_left desk.new)) }
+    ensures same_script { Keeps (D.script_left desk.old) (D.script_left desk.new) }
+    ensures same_calm { D.calm desk.new ≡ D.calm desk.old }
+
+    ensures later { D.faults desk.old ≤ D.faults desk.new }
+    ensures cause { HasFailed result → Rose (D.faults desk.old) (D.faults desk.new) }
+    ensures no_fault { IsTrue (D.calm desk.old) → IsSome (told_book (D.books desk.old) name.now)
+        → D.faults desk.new ≡ D.faults desk.old }
+{
+    match desk.open_book(name) {
+        Ok(()) => Ok(()),
+        Err(failed) => Err(DeviceFault::Failed(failed)),
+    }
+}
+
 /// The book of that name, unless it has a form that can't be read so far.
 fn load_book<D: Desk>(
     alloc: Global,
@@ -88,9 +106,9 @@ fn load_book<D: Desk>(
     ensures no_fault { IsTrue (D.calm desk.old) → IsSome (told_book (D.books desk.old) name.now)
         → D.faults desk.new ≡ D.faults desk.old }
 {
-    desk.open_book(name).map_err(DeviceFault::Failed)?;
+    open(desk, name)?;
     let bytes = read_all(alloc, desk, Input::BookInput, MOST_BYTES)?;
-    let book = book_of(alloc, &bytes).map_err(DeviceFault::NoMemory)?;
+    let book = book_of(alloc, &bytes)?;
     Ok(book)
 }
 

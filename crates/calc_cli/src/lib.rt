@@ -6,6 +6,7 @@ mod command;
 mod end;
 mod input_bytes;
 mod inputs;
+mod limits;
 mod output;
 mod records;
 mod replies;
@@ -14,6 +15,7 @@ mod words;
 mod written;
 
 pub use command::run;
+pub use limits::MOST_SCRIPT_BYTES;
 pub use status::{
     BAD_WORDS, BOOK_REFUSED, DESK_FAILED, DONE, LINE_REFUSED, NO_MEMORY, SCRIPT_TOO_LONG,
     SINK_FAILED, message,

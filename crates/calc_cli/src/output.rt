@@ -9,7 +9,7 @@ ghost use Rattle.calc_cli.specs.Output.{answer, has_refusal, output};
 ghost use Rattle.calc_cli.specs.Runs.{GrowsWithin};
 ghost use Rattle.calc_cli.specs.Sessions.{session_of};
 
-use crate::inputs::MOST_SCRIPT_BYTES;
+use crate::limits::MOST_SCRIPT_BYTES;
 use crate::replies::answer_line;
 use crate::written::write_all;
 use calc_io::{DeviceFault, Sink};

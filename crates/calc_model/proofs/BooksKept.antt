@@ -1,5 +1,5 @@
 -- A book stays one under every edit: its entries stay in order, and what they can be.
-use Rattle.std.proofs.Common.{◌≡◌, ◌≤◌, Bool, true, false, not, ◌&&◌, ◌||◌, cond, T, nat_le, ℕ, suc, List, [], ◌∷◌, length, refl, sym, ap, subst, ◌∙◌, arith}
+use Rattle.std.proofs.Common.{◌≡◌, ◌≤◌, ◌+◌, Bool, true, false, not, ◌&&◌, ◌||◌, cond, T, nat_le, ℕ, suc, List, [], ◌∷◌, length, refl, sym, ap, subst, ◌∙◌, arith}
 use Rattle.std.specs.Prelude.{Result, Ok, Err}
 use Rattle.std.specs.List.{filter, list_all}
 use Rattle.std.specs.Ordering.{is_lt, match_ordering}
@@ -106,6 +106,33 @@ length-filter test (e ∷ es) =
     elim (test e) as (λ b. length (cond b (e ∷ filter test es) (filter test es)) ≤ suc (length es)) [
       | true ↦ omega arith
       | false ↦ omega arith
+    ]
+
+length-insert : (cell : Place) (content : Content) (es : Entries) → length (insert_entry place_cmp es cell content) ≤ length es + 1
+length-insert cell content [] = omega arith
+length-insert cell content (e ∷ es) =
+    let rest = length-insert cell content es in
+    elim (place_cmp cell e.0) as (λ o. length (match_ordering o ((cell, content) ∷ e ∷ es) ((e.0, content) ∷ es) (e ∷ insert_entry place_cmp es cell content)) ≤ suc (length es) + 1) [
+      | Less ↦ omega arith
+      | Equal ↦ omega arith
+      | Greater ↦ omega arith
+    ]
+
+length-remove : (test : Place → Bool) (es : Entries) → length (remove_entry test es) ≤ length es
+length-remove test [] = omega arith
+length-remove test (e ∷ es) =
+    let rest = length-remove test es in
+    elim (test e.0) as (λ b. length (cond b es (e ∷ remove_entry test es)) ≤ suc (length es)) [
+      | true ↦ omega arith
+      | false ↦ omega arith
+    ]
+
+-- one content more is one entry more at most
+pub longer_by_one : (es : Entries) (cell : Place) (content : Content) → length (with_content es cell content) ≤ length es + 1
+longer_by_one es cell content =
+    elim (is_held content) as (λ b. length (cond b (insert_entry place_cmp es cell content) (remove_entry (is_at (place_cmp cell)) es)) ≤ length es + 1) [
+      | true ↦ length-insert cell content es
+      | false ↦ omega (arith, length-remove (is_at (place_cmp cell)) es)
     ]
 
 -- the entries with a content in a cell, or with nothing there

@@ -7,6 +7,7 @@ pub mod Shown
 pub mod Knowing
 pub mod Places
 pub mod Counting
+pub mod Pigeonhole
 pub mod Readiness
 pub mod Building
 mod ShownExamples

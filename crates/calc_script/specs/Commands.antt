@@ -16,7 +16,7 @@ use Rattle.calc_script.specs.declared.command.Line.{Line}
 use Rattle.calc_script.specs.declared.command.Line.TheVariants.{Nothing, Do, Refused}
 use Rattle.calc_script.specs.declared.command.Command.{Command}
 use Rattle.calc_script.specs.declared.command.Command.TheVariants as commands
-use Rattle.calc_script.specs.declared.read.TheConstants.{MOST_PRINTED}
+use Rattle.calc_script.specs.declared.limits.TheConstants.{MOST_PRINTED}
 use Rattle.calc_script.specs.declared.command.Cause.{Cause}
 use Rattle.calc_script.specs.declared.command.Cause.TheVariants.{BadCommand, TooLarge, NoWatcher, Edit}
 use Rattle.calc_script.specs.Words.{behind_space, is_idle, up_to_space, without_return, without_spaces, words_of}

@@ -2,9 +2,11 @@
 #![tactic(auto)]
 
 mod command;
+mod limits;
 mod read;
 mod words;
 
 pub use byte_cuts::{TextLines as ScriptLines, lines};
 pub use command::{Cause, Command, Line};
-pub use read::{MOST_PRINTED, read_line};
+pub use limits::MOST_PRINTED;
+pub use read::read_line;

@@ -5,14 +5,12 @@ ghost use Rattle.calc_model.specs.OverFields.{ReadsOver};
 ghost use Rattle.calc_script.specs.Words.{behind_space, up_to_space};
 
 use crate::command::{Cause, Command, Line};
+use crate::limits::MOST_PRINTED;
 use crate::words::{LineWords, cut_word, is_idle, without_return, without_spaces, words};
 use calc_addr::{Area, NoMemory, Spelled, read_area, read_cell};
 use calc_model::{Edit, EditCause};
 use formula_reader::read_field;
 use std::alloc::Global;
-
-/// The most cells that a line prints.
-pub const MOST_PRINTED: u64 = 65_536;
 
 /// What a line does, or why it is refused. It fails only where memory is refused, and takes none but
 /// for a field's texts and formulas. Linear in the line.

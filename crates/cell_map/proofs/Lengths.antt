@@ -1,5 +1,5 @@
 -- How many entries a sorted list has with one more or one less.
-use Rattle.std.proofs.Common.{◌≡◌, ℕ, ◌+◌, ◌-◌, Bool, true, false, cond, nat_lt, nat_le, ◌<◌, ◌≤◌, List, [], ◌∷◌, length, Some, None, is_some, refl, arith}
+use Rattle.std.proofs.Common.{◌≡◌, ℕ, ◌+◌, ◌-◌, Bool, true, false, cond, nat_le, ◌<◌, ◌≤◌, List, [], ◌∷◌, length, Some, None, is_some, refl, sym, arith}
 use Rattle.std.specs.Map.{lookup, remove_entry}
 use Rattle.std.specs.BTreeMap.{insert_entry, is_at}
 use Rattle.std.specs.Cmp.{IsTotalOrder}
@@ -11,6 +11,11 @@ use Rattle.std.proofs.lemmas.Map.{lookup-none}
 use Rattle.std.proofs.lemmas.Map.Entries.{none_below_head}
 use Rattle.std.specs.Ordering.{match_ordering}
 use Rattle.std.specs.Map.{keys_of}
+use Rattle.std.proofs.lemmas.Bool.{le-leb}
+use Rattle.calc_addr.specs.Places.{Place, place_cmp}
+use Rattle.calc_model.specs.declared.content.Content.{Content}
+use Rattle.calc_model.specs.Books.{is_held, with_content}
+use Rattle.calc_model.proofs.Places.{places_total}
 
 abbrev pub once : Bool → ℕ
 once b = cond b 1 0
@@ -41,9 +46,29 @@ length-insert_entry cmp total (e ∷ es) k v sorted =
     ] refl
 
 -- a list below the limit has room for an entry, and one at the limit has it where the key is there already
-pub room_below : (longer there entries limit : ℕ) → longer + there ≡ entries + 1 → entries < limit → nat_lt entries limit ≡ nat_le longer limit
+room_below : (longer there entries limit : ℕ) → longer + there ≡ entries + 1 → entries < limit → true ≡ nat_le longer limit
 room_below longer there entries limit sum below = grind (arith, nat_tests)
 
-pub room_at : (there : Bool) (longer entries limit : ℕ) → longer + once there ≡ entries + 1 → entries ≤ limit → limit ≤ entries → there ≡ nat_le longer limit
+room_at : (there : Bool) (longer entries limit : ℕ) → longer + once there ≡ entries + 1 → entries ≤ limit → limit ≤ entries → there ≡ nat_le longer limit
 room_at true longer entries limit sum few many = grind (arith, nat_tests)
 room_at false longer entries limit sum few many = grind (arith, nat_tests)
+
+module _ (cells : List (Place × Content)) (cell : Place) (content : Content) where
+  -- whether there is room for a content
+  abbrev fits : ℕ → Bool
+  fits limit = nat_le (length (with_content cells cell content)) limit
+
+  pub fits_empty : (limit : ℕ) → is_held content ≡ false → length cells ≤ limit → true ≡ fits limit
+  fits_empty limit empty few =
+      let shorter : length (remove_entry (is_at (place_cmp cell)) cells) ≤ limit = omega (arith, length-remove_entry (is_at (place_cmp cell)) cells) in
+      rw empty (sym (le-leb _ limit shorter))
+
+  module _ (held : is_held content ≡ true) (sorted : IsStrictlySortedBy place_cmp (keys_of cells)) where
+    longer : length (insert_entry place_cmp cells cell content) + once (is_some (lookup (is_at (place_cmp cell)) cells)) ≡ length cells + 1
+    longer = length-insert_entry place_cmp places_total cells cell content sorted
+
+    pub fits_below : (limit : ℕ) → length cells < limit → true ≡ fits limit
+    fits_below limit below = rw held (room_below _ _ _ limit longer below)
+
+    pub fits_at : (limit : ℕ) → length cells ≤ limit → limit ≤ length cells → is_some (lookup (is_at (place_cmp cell)) cells) ≡ fits limit
+    fits_at limit few many = rw held (room_at _ _ _ limit longer few many)

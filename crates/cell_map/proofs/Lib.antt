@@ -3,4 +3,4 @@ pub mod Lookups
 -- how many cells a map has after a change
 pub mod Lengths
 -- a map stays a book
-mod Kept
+pub mod Kept

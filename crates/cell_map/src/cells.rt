@@ -1,14 +1,11 @@
-ghost use Rattle.std.specs.Prelude.{◌≡◌, ◌<◌, ◌≤◌, ◌↔◌, nat_le, [], true, length, unwrap_or, IsErrOf, IsTrue, OnOk, OnErr};
+ghost use Rattle.std.specs.Prelude.{◌≡◌, ◌≤◌, ◌↔◌, nat_le, [], true, length, unwrap_or, IsTrue, OnOk, OnErr};
 ghost use Rattle.std.specs.List.{All};
-ghost use Rattle.std.specs.BTreeMap.{insert_entry};
 ghost use Rattle.std.specs.Option.{option_copied};
-ghost use Rattle.calc_addr.specs.Places.{place_cmp};
-ghost use Rattle.calc_model.specs.declared.content.Content.{Content};
 ghost use Rattle.calc_model.specs.Books.{IsBook, content_at, formula_count, is_content, is_held, is_place, with_content};
+ghost use Rattle.calc_model.specs.Step.{is_edit, without_area};
 
-use crate::fault::EditFault;
-use calc_addr::Cell;
-use calc_model::{Content, EditCause, MOST_CELLS};
+use calc_addr::{Area, Cell, NoMemory};
+use calc_model::{Content, Edit, MOST_CELLS};
 use std::alloc::Global;
 use std::collections::BTreeMap;
 use std::collections::btree_map::Iter;
@@ -50,6 +47,7 @@ impl CellMap {
     /// How many cells aren't empty.
     pub fn len(&self) -> usize
         ensures cells { result ≡ length self.now.cells }
+        ensures names { self.now.names ≡ [] }
         ensures book { IsBook self.now }
     {
         self.cells.len()
@@ -69,26 +67,39 @@ impl CellMap {
         self.cells.get(&cell)
     }
 
+    /// Whether the cell may hold the content: there would be no more cells than a book may have.
+    pub fn has_room(&self, cell: Cell, content: &Content) -> bool
+        ensures { result ≡ nat_le (length (with_content self.now.cells cell content.now)) MOST_CELLS }
+    {
+        let len = self.cells.len();
+        if !content.is_held() {
+            return true;
+        }
+        if len < MOST_CELLS {
+            return true;
+        }
+        self.cells.contains_key(&cell)
+    }
+
     /// Puts a content into a cell, or empties it.
-    pub fn set(&mut self, cell: Cell, content: Content) -> Result<(), EditFault>
+    pub fn set(&mut self, cell: Cell, content: Content) -> Result<(), NoMemory>
+        requires room { length (with_content self.old.cells cell content) ≤ MOST_CELLS }
         ensures cells { OnOk result (self.new.cells ≡ with_content self.old.cells cell content) }
         ensures names { self.new.names ≡ self.old.names }
         ensures book { IsBook self.new }
-        ensures full { IsErrOf result (EditFault.Refused EditCause.CellsFull)
-            → MOST_CELLS < length (with_content self.old.cells cell content) }
         ensures kept { OnErr result (self.new ≡ self.old) }
     {
-        if !is_held(&content) {
-            self.cells.remove(&cell);
-            return Ok(());
-        }
-        if !has_room(&self.cells, cell) {
-            return Err(EditFault::Refused(EditCause::CellsFull));
-        }
-        match self.cells.insert(in_sheets(cell), content) {
-            Ok(_) => Ok(()),
-            Err(_) => Err(EditFault::NoMemory),
-        }
+        put(&mut self.cells, cell, content)?;
+        Ok(())
+    }
+
+    /// Empties the cells of an area.
+    pub fn clear(&mut self, area: Area)
+        ensures cells { self.new.cells ≡ without_area self.old.cells area }
+        ensures names { self.new.names ≡ self.old.names }
+        ensures book { IsBook self.new }
+    {
+        remove_area(&mut self.cells, area);
     }
 
     /// How many cells hold a formula. Linear in the cells.
@@ -106,19 +117,32 @@ impl CellMap {
     pub fn iter(&self) -> Iter<'_, Cell, Content>
         ensures rest { result ≡ self.now.cells }
         ensures found { All (λ entry. content_at self.now entry.0 ≡ entry.1) self.now.cells }
+        ensures names { self.now.names ≡ [] }
         ensures book { IsBook self.now }
     {
         self.cells.iter()
     }
 }
 
-/// Whether the map may have a content in that cell.
-fn has_room(cells: &BTreeMap<Cell, Content>, cell: Cell) -> bool
-    requires { length cells.now.entries ≤ MOST_CELLS }
-    ensures { (content : Content)
-        → result ≡ nat_le (length (insert_entry place_cmp cells.now.entries cell content)) MOST_CELLS }
+/// Puts a content into a cell, or empties it.
+fn put(cells: &mut BTreeMap<Cell, Content>, cell: Cell, content: Content) -> Result<(), NoMemory>
+    ensures ok { OnOk result (cells.new.entries ≡ with_content cells.old.entries cell content) }
+    ensures err { OnErr result (cells.new.entries ≡ cells.old.entries) }
+    ensures edit { is_edit (Edit.Set cell content) ≡ true }
 {
-    cells.len() < MOST_CELLS || cells.contains_key(&cell)
+    let cell = in_sheets(cell);
+    if is_held(&content) {
+        cells.insert(cell, content)?;
+    } else {
+        cells.remove(&cell);
+    }
+    Ok(())
+}
+
+fn remove_area(cells: &mut BTreeMap<Cell, Content>, area: Area)
+    ensures { cells.new.entries ≡ without_area cells.old.entries area }
+{
+    cells.retain(|cell, _| !area.covers(*cell));
 }
 
 /// The cell, which lies in one of the sheets as every cell does.

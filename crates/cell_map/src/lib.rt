@@ -4,11 +4,9 @@
 #![tactic(auto)]
 
 mod cells;
-mod fault;
 mod results;
 mod show;
 
 pub use cells::CellMap;
-pub use fault::EditFault;
 pub use results::ResultMap;
-pub use show::shown;
+pub use show::{number_shown, shown};

@@ -1,12 +1,14 @@
-ghost use Rattle.std.specs.Prelude.{◌≡◌};
+ghost use Rattle.std.specs.Prelude.{◌≡◌, ◌++◌, OnOk, OnErr};
 ghost use Rattle.calc_model.specs.Results.{shown_by};
-ghost use Rattle.calc_model.specs.ValueTexts.{lent};
+ghost use Rattle.calc_model.specs.Scalars.{number_of};
+ghost use Rattle.calc_model.specs.ValueTexts.{lent, text_of};
 ghost use Rattle.cell_map.specs.ResultMap.{results_of};
 
 use crate::cells::CellMap;
 use crate::results::ResultMap;
-use calc_addr::Cell;
-use calc_model::{Content, Fault, Seen};
+use calc_addr::{Cell, NoMemory};
+use calc_model::{Content, Fault, Seen, Text, show};
+use calc_num::Num;
 
 /// What the cell shows by these results; a formula that has none counts as circular.
 pub fn shown<'a>(cells: &'a CellMap, results: &'a ResultMap, cell: Cell) -> Seen<'a>
@@ -20,5 +22,41 @@ pub fn shown<'a>(cells: &'a CellMap, results: &'a ResultMap, cell: Cell) -> Seen
             Some(value) => value.seen(),
             None => Seen::Bad(Fault::Circular),
         },
+    }
+}
+
+/// The number that the cell shows by these results: blank is 0, a text is `BadValue`, and an error is
+/// itself.
+pub fn number_shown(cells: &CellMap, results: &ResultMap, cell: Cell) -> Result<Num, Fault>
+    ensures { result ≡ number_of (shown_by cells.now (results_of results.now) cell) }
+{
+    match shown(cells, results, cell) {
+        Seen::Number(number) => Ok(number),
+        Seen::Words(text) => {
+            let _: &Text = text;
+            Err(Fault::BadValue)
+        }
+        Seen::Bad(fault) => Err(fault),
+        Seen::Blank => Ok(Num::default()),
+    }
+}
+
+/// Appends the printed text of what the cell shows by these results. Where memory is refused, `out` is
+/// as before.
+pub fn show_cell(
+    cells: &CellMap,
+    results: &ResultMap,
+    cell: Cell,
+    out: &mut Vec<u8>,
+) -> Result<(), NoMemory>
+    ensures ok { OnOk result (out.new.items
+        ≡ out.old.items ++ text_of (shown_by cells.now (results_of results.now) cell)) }
+    ensures err { OnErr result (out.new.items ≡ out.old.items) }
+{
+    match shown(cells, results, cell) {
+        Seen::Number(number) => show(Seen::Number(number), out),
+        Seen::Words(text) => show(Seen::Words(text), out),
+        Seen::Bad(fault) => fault.show(out),
+        Seen::Blank => Ok(()),
     }
 }

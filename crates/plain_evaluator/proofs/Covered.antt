@@ -3,16 +3,15 @@ use Rattle.std.proofs.Common.{◌≡◌, Bool, true, false, not, ◌||◌, ◌&&
 use Rattle.std.specs.List.{list_all}
 use Rattle.calc_addr.specs.Places.{Place, Rectangle, covers, places}
 use Rattle.calc_model.specs.declared.content.Content.{Content}
-use Rattle.calc_model.specs.Books.{content_at}
+use Rattle.calc_model.specs.Books.{Book, content_at}
 use Rattle.calc_model.specs.Results.{Results, is_known}
 use Rattle.calc_model.proofs.Areas.{places_all, all_places}
-use Rattle.plain_evaluator.specs.Plain.{book_of}
 use Rattle.calc_model.proofs.Knowing.{unknown}
 use Rattle.plain_evaluator.proofs.Sweeps.{list_all-find, found_entry}
 
 -- the area doesn't cover the cell, or the cell is known
-abbrev pub is_covered_known : List (Place × Content) → Results → Rectangle → Place → Bool
-is_covered_known cells results area cell = not (covers area cell) || is_known (book_of cells) results cell
+abbrev pub is_covered_known : Book → Results → Rectangle → Place → Bool
+is_covered_known book results area cell = not (covers area cell) || is_known book results cell
 
 pub same_tests : (a b : Bool) → (a ≡ true → b ≡ true) → (b ≡ true → a ≡ true) → a ≡ b
 same_tests true b f g = sym (f refl)
@@ -32,31 +31,31 @@ each_entry : (test : Place → Bool) (cells : List (Place × Content)) → ((q :
 each_entry test [] h = refl
 each_entry test (e ∷ es) h = rw (h e.0, each_entry test es h) refl
 
-module _ (cells : List (Place × Content)) (results : Results) (area : Rectangle) where
+module _ (book : Book) (results : Results) (area : Rectangle) where
   abbrev known : Place → Bool
-  known = is_known (book_of cells) results
+  known = is_known book results
 
-  from_places : list_all known (places area) ≡ true → list_all (λ entry. is_covered_known cells results area entry.0) cells ≡ true
+  from_places : list_all known (places area) ≡ true → list_all (λ entry. is_covered_known book results area entry.0) book.cells ≡ true
   from_places all =
-      each_entry (is_covered_known cells results area) cells (λ q. elim (covers area q) as (λ b. covers area q ≡ b → (not b || known q) ≡ true) [
+      each_entry (is_covered_known book results area) book.cells (λ q. elim (covers area q) as (λ b. covers area q ≡ b → (not b || known q) ≡ true) [
         | true ↦ λ covered. places_all known area all q covered
         | false ↦ λ apart. refl
       ] refl)
 
-  to_places : list_all (λ entry. is_covered_known cells results area entry.0) cells ≡ true → list_all known (places area) ≡ true
+  to_places : list_all (λ entry. is_covered_known book results area entry.0) book.cells ≡ true → list_all known (places area) ≡ true
   to_places all =
       all_places known area (λ q covered. elim (known q) as (λ b. known q ≡ b → b ≡ true) [
         | true ↦ λ is. refl
         | false ↦ λ is_not.
-            let u = unknown (content_at (book_of cells) q) (results q) is_not in
-            let entry = found_entry cells q u.tree u.at in
-            let passes : is_covered_known cells results area q ≡ true = list_all-find (is_covered_known cells results area) cells q entry.0 all entry.1 in
+            let u = unknown (content_at book q) (results q) is_not in
+            let entry = found_entry book q u.tree u.at in
+            let passes : is_covered_known book results area q ≡ true = list_all-find (is_covered_known book results area) book.cells q entry.0 all entry.1 in
             let known_here : known q ≡ true = covered_known (covers area q) (known q) passes covered in
             cc
       ] refl)
 
   -- the cells of the area are known where the entries are that it covers
-  pub entries_known : list_all (λ entry. is_covered_known cells results area entry.0) cells ≡ list_all known (places area)
+  pub entries_known : list_all (λ entry. is_covered_known book results area entry.0) book.cells ≡ list_all known (places area)
   entries_known = same_tests _ _ to_places from_places
 
 -- an entry that is covered and not known fails the test of all

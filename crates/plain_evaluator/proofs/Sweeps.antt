@@ -8,7 +8,7 @@ use Rattle.std.proofs.lemmas.Cmp.{tied_itself}
 use Rattle.std.proofs.lemmas.List.Filters.{length-filter_both}
 use Rattle.std.specs.FinMap.Entries.{find}
 use Rattle.calc_addr.specs.Places.{Place, place_cmp}
-use Rattle.calc_addr.proofs.Order.{place_cmp_total}
+use Rattle.calc_addr.proofs.Walking.Order.{place_cmp_total}
 use Rattle.calc_model.specs.declared.value.Value.{Value}
 use Rattle.calc_model.specs.declared.content.Content.{Content}
 use Rattle.calc_model.specs.declared.content.Content.TheVariants.{Empty, Formula}
@@ -21,77 +21,64 @@ use Rattle.calc_model.proofs.Places.{same_places}
 use Rattle.calc_model.proofs.Readiness.{ready-Formula}
 use Rattle.calc_model.proofs.Knowing.{sound_with, unknown}
 use Rattle.calc_model.proofs.Areas.{both_true}
-use Rattle.plain_evaluator.specs.Plain.{book_of, known_count, is_settled}
+use Rattle.plain_evaluator.specs.Plain.{AreReaders, known_count, is_settled}
+use Rattle.plain_evaluator.proofs.Formulas.{Reading, readers_all}
 
 or_true : (b : Bool) → (b || true) ≡ true
 or_true true = refl
 or_true false = refl
 
-module _ (book : Book) (results : Results) (cell : Place) where
-  pub settled_constant : is_formula (content_at book cell) ≡ false → is_settled book results cell ≡ true
-  settled_constant h = ap (λ b. (not b || is_some (results cell)) || not (is_ready book results cell)) h
-
-  pub settled_result : is_some (results cell) ≡ true → is_settled book results cell ≡ true
-  settled_result h = ap (λ b. (not (is_formula (content_at book cell)) || b) || not (is_ready book results cell)) h ∙ ap (λ b. b || not (is_ready book results cell)) (or_true (not (is_formula (content_at book cell))))
-
-  pub settled_unready : (tree : Tree) → content_at book cell ≡ Formula tree → is_tree_ready book results cell tree ≡ false → is_settled book results cell ≡ true
-  settled_unready tree at h = ap (λ b. is_known book results cell || not b) (ready-Formula book results cell tree at ∙ h) ∙ or_true (is_known book results cell)
-
-  pub sound_more : IsSound book results → (new : Results) (tree : Tree) (value : Value) → content_at book cell ≡ Formula tree → is_tree_ready book results cell tree ≡ true → value ≡ top (eval cell (area_named book) (shown_by book results) tree) → Sets results new cell value → IsSound book new
-  sound_more sound new tree value at ready is sets =
-      sound_with book results sound new cell tree at (ready-Formula book results cell tree at ∙ ready) (subst (Sets results new cell) is sets)
-
-pub known_in_cells : (cells : List (Place × Content)) (results : Results) → known_count cells results ≤ length cells
+pub known_in_cells : (book : Book) (results : Results) → known_count book results ≤ length book.cells
 unfolding known_count
-known_in_cells cells results = omega (arith, length-filter_both (λ entry. is_known (book_of cells) results entry.0) (λ entry. not (is_known (book_of cells) results entry.0)) (λ _. refl) cells)
+known_in_cells book results = omega (arith, length-filter_both (λ entry. is_known book results entry.0) (λ entry. not (is_known book results entry.0)) (λ _. refl) book.cells)
 
 held_entry : (o : Option Content) (tree : Tree) → unwrap_or o Empty ≡ Formula tree → (x : Content) × (o ≡ Some x)
 held_entry (Some x) tree h = (x, refl)
 held_entry None tree h = cc
 
-pub found_entry : (cells : List (Place × Content)) (cell : Place) (tree : Tree) → content_at (book_of cells) cell ≡ Formula tree → (x : Content) × (find place_cmp cell cells ≡ Some x)
+pub found_entry : (book : Book) (cell : Place) (tree : Tree) → content_at book cell ≡ Formula tree → (x : Content) × (find place_cmp cell book.cells ≡ Some x)
 unfolding content_at
-found_entry cells cell tree at = held_entry (find place_cmp cell cells) tree at
+found_entry book cell tree at = held_entry (find place_cmp cell book.cells) tree at
 
-module _ (cells : List (Place × Content)) (old new : Results) (cell : Place) (value : Value) (sets : Sets old new cell value) where
+module _ (book : Book) (old new : Results) (cell : Place) (value : Value) (sets : Sets old new cell value) where
   abbrev before : Place → Bool
-  before = is_known (book_of cells) old
+  before = is_known book old
 
   abbrev after : Place → Bool
-  after = is_known (book_of cells) new
+  after = is_known book new
 
   stays_known : (q : Place) → before q ≡ true → after q ≡ true
   stays_known q h =
       elim (eq_by_cmp place_cmp cell q) as (λ b. eq_by_cmp place_cmp cell q ≡ b → after q ≡ true) [
         | true ↦ λ tied.
             let here : new q ≡ Some value = sets q ∙ ap (λ b. cond b (Some value) (old q)) tied in
-            ap (λ (o : Option Value). not (is_formula (content_at (book_of cells) q)) || is_some o) here ∙ or_true _
+            ap (λ (o : Option Value). not (is_formula (content_at book q)) || is_some o) here ∙ or_true _
         | false ↦ λ apart.
             let same : new q ≡ old q = sets q ∙ ap (λ b. cond b (Some value) (old q)) apart in
-            ap (λ (o : Option Value). not (is_formula (content_at (book_of cells) q)) || is_some o) same ∙ h
+            ap (λ (o : Option Value). not (is_formula (content_at book q)) || is_some o) same ∙ h
       ] refl
 
   known_here : eq_by_cmp place_cmp cell cell ≡ true → after cell ≡ true
   known_here tied =
       let here : new cell ≡ Some value = sets cell ∙ ap (λ b. cond b (Some value) (old cell)) tied in
-      ap (λ (o : Option Value). not (is_formula (content_at (book_of cells) cell)) || is_some o) here ∙ or_true _
+      ap (λ (o : Option Value). not (is_formula (content_at book cell)) || is_some o) here ∙ or_true _
 
   abbrev known_entries : (Place → Bool) → ℕ
-  known_entries f = count place_cmp same_places (λ _. true) f cells
+  known_entries f = count place_cmp same_places (λ _. true) f book.cells
 
   -- the cell that has its first result counts once more
-  more_entries : (tree : Tree) → content_at (book_of cells) cell ≡ Formula tree → old cell ≡ None → eq_by_cmp place_cmp cell cell ≡ true → nat_lt (known_entries before) (known_entries after) ≡ true
+  more_entries : (tree : Tree) → content_at book cell ≡ Formula tree → old cell ≡ None → eq_by_cmp place_cmp cell cell ≡ true → nat_lt (known_entries before) (known_entries after) ≡ true
   more_entries tree at none tied =
       elim (nat_lt (known_entries before) (known_entries after)) as (λ b. nat_lt (known_entries before) (known_entries after) ≡ b → b ≡ true) [
         | true ↦ λ less. refl
         | false ↦ λ no_more.
-            let entry = found_entry cells cell tree at in
-            let known : before cell ≡ true = same_where_counted place_cmp same_places (λ _. true) before after stays_known cells cell entry.0 (ltb-false (known_entries before) (known_entries after) no_more) entry.1 refl (known_here tied) in
+            let entry = found_entry book cell tree at in
+            let known : before cell ≡ true = same_where_counted place_cmp same_places (λ _. true) before after stays_known book.cells cell entry.0 (ltb-false (known_entries before) (known_entries after) no_more) entry.1 refl (known_here tied) in
             let unknown : before cell ≡ false = ap (λ x. not (is_formula x) || is_some (old cell)) at ∙ ap (λ (o : Option Value). is_some o) none in
             cc
       ] refl
 
-  pub more_known : (tree : Tree) → content_at (book_of cells) cell ≡ Formula tree → old cell ≡ None → known_count cells old < known_count cells new
+  pub more_known : (tree : Tree) → content_at book cell ≡ Formula tree → old cell ≡ None → known_count book old < known_count book new
   unfolding known_count
   more_known tree at none = ltb-true (known_entries before) (known_entries after) (more_entries tree at none (ap is_eq (tied_itself place_cmp_total cell)))
 
@@ -114,9 +101,8 @@ unready : (known ready : Bool) → (known || not ready) ≡ true → known ≡ f
 unready known true settled unknown = cc
 unready known false settled unknown = refl
 
--- a map of which each entry is settled holds no formula that is ready and not known
-pub finished : (cells : List (Place × Content)) (results : Results) → list_all (λ entry. is_settled (book_of cells) results entry.0) cells ≡ true → IsFinished (book_of cells) results
-finished cells results all cell not_known =
-    let is = unknown (content_at (book_of cells) cell) (results cell) not_known in
-    let entry = found_entry cells cell is.tree is.at in
-    unready (is_known (book_of cells) results cell) (is_ready (book_of cells) results cell) (list_all-find (is_settled (book_of cells) results) cells cell entry.0 all entry.1) not_known
+-- where each formula is settled, none is ready and not known
+pub finished : (book : Book) (results : Results) (readers : List Reading) → AreReaders book readers → list_all (λ reader. is_settled book results reader.0) readers ≡ true → IsFinished book results
+finished book results readers are all cell not_known =
+    let is = unknown (content_at book cell) (results cell) not_known in
+    unready (is_known book results cell) (is_ready book results cell) (readers_all book (is_settled book results) readers cell all (are.every cell (ap is_formula is.at))) not_known

@@ -1,22 +1,25 @@
 -- The areas that a formula reads in a book without names, at each kind of node.
 use Rattle.std.proofs.Common.{◌≡◌, ℕ, ℤ, List, [], ◌∷◌, ◌++◌, map, refl, ap, ◌∙◌}
 use Rattle.std.specs.List.{flat_map}
+use Rattle.std.specs.FinMap.Entries.{find}
+use Rattle.std.specs.Ordering.{nat_cmp}
+use Rattle.std.specs.Cmp.Lexicographic.{slice_cmp}
+use Rattle.std.specs.Str.{str_to_ascii_uppercase}
 use Rattle.calc_addr.specs.Places.{Place, Rectangle}
 use Rattle.calc_addr.specs.References.{Reference, here}
-use Rattle.calc_model.specs.declared.content.Content.{Content}
 use Rattle.calc_model.specs.declared.fault.Fault.{Fault}
 use Rattle.calc_model.specs.declared.tree.Op.{Op}
 use Rattle.calc_model.specs.declared.tree.Tree.{Tree}
 use Rattle.calc_model.specs.declared.tree.Tree.TheVariants as t
-use Rattle.calc_model.specs.Books.{area_named}
+use Rattle.calc_model.specs.Books.{Book, area_named, looked_up}
 use Rattle.calc_model.specs.Reads.{areas, areas_step}
 use Rattle.calc_model.proofs.TreeFolds as fold
-use Rattle.plain_evaluator.specs.Plain.{book_of, no_names}
+use Rattle.plain_evaluator.specs.Plain.{no_names}
 
--- a book without names has none
-pub no_name_is_defined : (cells : List (Place × Content)) → area_named (book_of cells) ≡ no_names
+-- in a book without names none stands for anything
+pub no_name_is_defined : (book : Book) → book.names ≡ [] → area_named book ≡ no_names
 unfolding area_named
-no_name_is_defined cells = refl
+no_name_is_defined book none = ap (λ names name. looked_up (find (slice_cmp nat_cmp) (str_to_ascii_uppercase name) names)) none
 
 flat_map-map : {X Y : Type 0} (f : X → List Y) (xs : List X) → flat_map (λ ys. ys) (map f xs) ≡ flat_map f xs
 flat_map-map f [] = refl

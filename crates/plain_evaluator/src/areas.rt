@@ -10,7 +10,7 @@ use calc_model::Tree;
 /// Linear in the tree. Where memory is refused, some of them may stand in `out`.
 #[cycle(reading)]
 #[tactic(auto, using(crate::proofs::TreeAreas::tree_areas))]
-pub fn push_areas(home: Cell, tree: &Tree, out: &mut Vec<Area>) -> Result<(), NoMemory>
+pub(crate) fn push_areas(home: Cell, tree: &Tree, out: &mut Vec<Area>) -> Result<(), NoMemory>
     ensures { OnOk result (out.new.items ≡ out.old.items ++ areas home no_names tree.now) }
 {
     match tree {
@@ -30,7 +30,8 @@ pub fn push_areas(home: Cell, tree: &Tree, out: &mut Vec<Area>) -> Result<(), No
 
 #[cycle(reading)]
 fn push_all_areas(home: Cell, trees: &[Tree], out: &mut Vec<Area>) -> Result<(), NoMemory>
-    ensures { OnOk result (out.new.items ≡ out.old.items ++ flat_map (areas home no_names) trees.now) }
+    ensures { OnOk result
+        (out.new.items ≡ out.old.items ++ flat_map (areas home no_names) trees.now) }
 {
     for tree in trees {
         push_areas(home, tree, out)?;

@@ -1,20 +1,20 @@
-ghost use Rattle.std.specs.Prelude.{◌≡◌, true, false, unwrap_or, IfNone, IfSome};
+ghost use Rattle.std.specs.Prelude.{◌≡◌, true, false, IfNone, IfSome};
 ghost use Rattle.calc_addr.specs.References.{here};
-ghost use Rattle.calc_model.specs.Books.{area_named};
-ghost use Rattle.calc_model.specs.Eval.{eval, is_one, is_one_cell, is_built};
+ghost use Rattle.calc_model.specs.Eval.{is_one, is_one_cell, is_built};
 ghost use Rattle.calc_model.specs.Results.{shown_by};
 ghost use Rattle.calc_model.specs.Scalars.{number_of, scalar_at};
-ghost use Rattle.plain_evaluator.specs.Plain.{book_of, results_of, sum_of};
+ghost use Rattle.cell_map.specs.ResultMap.{results_of};
+ghost use Rattle.plain_evaluator.specs.Plain.{sum_of, value_by};
 
-use crate::maps::{Cells, Results, content_of, result_of};
 use calc_addr::{Cell, Ref, Span};
-use calc_model::{Content, Fault, Op, Tree, Value, to_number};
+use calc_model::{Fault, Op, Tree, Value};
 use calc_num::Num;
+use cell_map::{CellMap, ResultMap, number_shown};
 
 /// The value of a formula at `home` over what is known. Only the sum of two references to one cell
 /// each has one so far.
-pub fn eval(cells: &Cells, results: &Results, home: Cell, tree: &Tree) -> Value
-    ensures { result ≡ eval home (area_named (book_of cells.now.entries)) (shown_by (book_of cells.now.entries) (results_of results.now.entries)) tree.now }
+pub fn eval(cells: &CellMap, results: &ResultMap, home: Cell, tree: &Tree) -> Value
+    ensures { result ≡ value_by cells.now (results_of results.now) home tree.now }
 {
     match cells_of_sum(tree) {
         Some((left, right)) => sum(cells, results, home, left, right),
@@ -26,7 +26,8 @@ pub fn eval(cells: &Cells, results: &Results, home: Cell, tree: &Tree) -> Value
 #[tactic(auto, using(calc_model::proofs::Building::building))]
 fn cells_of_sum(tree: &Tree) -> Option<(Ref, Ref)>
     ensures none { IfNone result (is_built tree.now ≡ false) }
-    ensures sum { IfSome result (λ cells. tree.now ≡ Tree.Binary Op.Add (Tree.Ref cells.0) (Tree.Ref cells.1)) }
+    ensures sum { IfSome result (λ cells.
+        tree.now ≡ Tree.Binary Op.Add (Tree.Ref cells.0) (Tree.Ref cells.1)) }
     ensures left { IfSome result (λ cells. is_one cells.0.span ≡ true) }
     ensures right { IfSome result (λ cells. is_one cells.1.span ≡ true) }
 {
@@ -41,7 +42,8 @@ fn cells_of_sum(tree: &Tree) -> Option<(Ref, Ref)>
 #[tactic(auto, using(calc_model::proofs::Building::building))]
 fn both_cells(op: Op, left: &Tree, right: &Tree) -> Option<(Ref, Ref)>
     ensures none { IfNone result (is_built (Tree.Binary op left.now right.now) ≡ false) }
-    ensures sum { IfSome result (λ cells. Tree.Binary op left.now right.now ≡ Tree.Binary Op.Add (Tree.Ref cells.0) (Tree.Ref cells.1)) }
+    ensures sum { IfSome result (λ cells. Tree.Binary op left.now right.now
+        ≡ Tree.Binary Op.Add (Tree.Ref cells.0) (Tree.Ref cells.1)) }
     ensures left { IfSome result (λ cells. is_one cells.0.span ≡ true) }
     ensures right { IfSome result (λ cells. is_one cells.1.span ≡ true) }
 {
@@ -78,10 +80,11 @@ fn one_span(reference: Ref) -> Option<Ref>
     }
 }
 
-fn sum(cells: &Cells, results: &Results, home: Cell, left: Ref, right: Ref) -> Value
+fn sum(cells: &CellMap, results: &ResultMap, home: Cell, left: Ref, right: Ref) -> Value
     requires left { is_one left.span ≡ true }
     requires right { is_one right.span ≡ true }
-    ensures { result ≡ eval home (area_named (book_of cells.now.entries)) (shown_by (book_of cells.now.entries) (results_of results.now.entries)) (Tree.Binary Op.Add (Tree.Ref left) (Tree.Ref right)) }
+    ensures { result ≡ value_by cells.now (results_of results.now) home
+        (Tree.Binary Op.Add (Tree.Ref left) (Tree.Ref right)) }
 {
     let left = number_at(cells, results, home, left);
     let right = number_at(cells, results, home, right);
@@ -89,35 +92,12 @@ fn sum(cells: &Cells, results: &Results, home: Cell, left: Ref, right: Ref) -> V
 }
 
 /// The number that a reference to one cell gives.
-fn number_at(cells: &Cells, results: &Results, home: Cell, reference: Ref) -> Result<Num, Fault>
+fn number_at(cells: &CellMap, results: &ResultMap, home: Cell, reference: Ref) -> Result<Num, Fault>
     requires { is_one reference.span ≡ true }
-    ensures { result ≡ number_of (scalar_at (here reference home) home (shown_by (book_of cells.now.entries) (results_of results.now.entries))) }
+    ensures { result ≡ number_of
+        (scalar_at (here reference home) home (shown_by cells.now (results_of results.now))) }
 {
     number_shown(cells, results, reference.here(home).corner())
-}
-
-/// The number that a cell shows.
-fn number_shown(cells: &Cells, results: &Results, cell: Cell) -> Result<Num, Fault>
-    ensures { result ≡ number_of (shown_by (book_of cells.now.entries) (results_of results.now.entries) cell) }
-{
-    let Some(content) = content_of(cells, cell) else {
-        return Ok(Num::default());
-    };
-    match content {
-        Content::Empty => Ok(Num::default()),
-        Content::Constant(constant) => to_number(constant.value()),
-        Content::Raw(_) => Err(Fault::Syntax),
-        Content::Formula(_) => number_of_result(results, cell),
-    }
-}
-
-fn number_of_result(results: &Results, cell: Cell) -> Result<Num, Fault>
-    ensures { result ≡ number_of (unwrap_or (results_of results.now.entries cell) (Value.Bad Fault.Circular)) }
-{
-    match result_of(results, cell) {
-        Some(value) => to_number(value),
-        None => Err(Fault::Circular),
-    }
 }
 
 /// The sum of two numbers, or the first fault.

@@ -1,16 +1,21 @@
--- A workbook as a plain map: what each cell holds, and the cells that edits touched since the last recalculation.
--- A formula that reaches one of these is stale.
-use Rattle.std.specs.Prelude.{◌&&◌, List}
+-- A workbook: its book, and the cells that edits touched since the last recalculation. A formula that
+-- reaches one of these is stale.
+use Rattle.std.specs.Prelude.{◌≡◌, ◌&&◌}
 use Rattle.calc_addr.specs.Places.{Place}
-use Rattle.calc_model.specs.declared.content.Content.{Content}
-use Rattle.calc_model.specs.Stale.{CellSet, is_formula_cell, reaches}
-use Rattle.plain_evaluator.specs.Plain.{book_of}
+use Rattle.calc_model.specs.declared.edit.Edit.{Edit}
+use Rattle.calc_model.specs.Books.{Book}
+use Rattle.calc_model.specs.Stale.{is_formula_cell, reaches, stale_after}
+use Rattle.calc_model.specs.Touched.{CellSet}
 use Rattle.plain_workbook.specs.Touched.{Parts, is_touched}
 
 pub record State : Type 0 where
-  pub cells : List (Place × Content)
+  pub book : Book
   pub touched : Parts
 
 -- the formulas that are stale
 unfoldable pub stale_of : State → CellSet
-stale_of state q = is_formula_cell (book_of state.cells) q && reaches (book_of state.cells) (is_touched state.touched) q
+stale_of state q = is_formula_cell state.book q && reaches state.book (is_touched state.touched) q
+
+-- the formulas that are stale after an edit, by those before it
+abbrev pub Stales : State → Edit → State → Type 0
+Stales before edit after = (q : Place) → stale_of after q ≡ stale_after before.book edit after.book (stale_of before) q

@@ -2,9 +2,10 @@
 //! scratch.
 #![tactic(auto)]
 
-mod map;
+mod fault;
 mod reach;
 mod touched;
 mod workbook;
 
-pub use workbook::{EditFault, PlainWorkbook};
+pub use fault::EditFault;
+pub use workbook::PlainWorkbook;

@@ -1,6 +1,6 @@
 //! Inputs that are missing or too long, devices that fail, and real files and pipes.
 use crate::runs::{books, bytes, outcome, text, words};
-use calc_cli::run;
+use calc_cli::{message, run};
 use calc_io::{MemoryDesk, MemorySink, PipeDesk, PipeSink, SteadyDesk, SteadySink};
 use calc_model::Text;
 use std::alloc::{AllocError, Global};
@@ -93,20 +93,46 @@ fn a_sink_that_fails_ends_with_4(rt: HostRuntime) -> Result<(), Fail> {
 }
 
 #[test]
-fn a_real_file_and_pipes_serve(rt: HostRuntime) -> Result<(), Fail> {
+fn real_files_serve(rt: HostRuntime) -> Result<(), Fail> {
     let alloc = rt.alloc();
-    let mut path = env::temp_dir(&rt)?;
-    path.push("calc-pipes.csv")?;
-    fs::write(&rt, &path, BOOK)?;
-    let name = path.to_str().ok_or("a path in UTF-8")?;
+    let mut folder = env::temp_dir(&rt)?;
+    folder.push("calc-files")?;
+    fs::create_dir_all(&rt, &folder)?;
+    let mut book = folder.clone()?;
+    book.push("book.csv")?;
+    let mut script = folder.clone()?;
+    script.push("script.txt")?;
+    let mut output = folder.clone()?;
+    output.push("output.csv")?;
+    fs::write(&rt, &book, BOOK)?;
+    fs::write(&rt, &script, SCRIPT)?;
+    let name = book.to_str().ok_or("a path in UTF-8")?;
     let words = vec![in alloc; text(alloc, name)?]?;
-    let mut written = Vec::new(alloc);
-    let mut desk = PipeDesk::new(&rt, SCRIPT.as_bytes());
-    let mut sink = PipeSink::new(&mut written);
+    let mut desk = PipeDesk::new(&rt, fs::open(&rt, &script)?);
+    let mut sink = PipeSink::new(fs::create(&rt, &output)?);
     let status = run(alloc, &words, &mut desk, &mut sink);
     drop(sink);
-    fs::remove_file(&rt, &path)?;
+    let written = fs::read(&rt, &output)?;
+    fs::remove_dir_all(&rt, &folder)?;
     assert_eq!(rt; status, 0);
     assert_eq!(rt; written.as_slice(), OUTPUT.as_bytes());
+    Ok(())
+}
+
+#[test]
+fn users_are_told_what_went_wrong(rt: HostRuntime) -> Result<(), Fail> {
+    let told = [
+        (0, ""),
+        (1, ""),
+        (2, "usage: calc BOOK"),
+        (3, "the book or the script can't be read"),
+        (4, "the output can't be written"),
+        (5, "out of memory"),
+        (6, ""),
+        (7, "the script has more than 16,777,216 bytes"),
+    ];
+    for (status, text) in told {
+        assert_eq!(rt; message(status), text);
+    }
     Ok(())
 }

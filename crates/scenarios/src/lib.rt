@@ -1,4 +1,4 @@
-//! Whole runs: what books and scripts print.
+//! Whole runs: what books and scripts print. And what the calls at the bottom give as compiled.
 #![tactic(auto)]
 
 #[cfg(test)]
@@ -11,6 +11,10 @@ mod edits;
 mod fields;
 #[cfg(test)]
 mod formulas;
+#[cfg(test)]
+mod numbers;
+#[cfg(test)]
+mod references;
 #[cfg(test)]
 mod refusals;
 #[cfg(test)]

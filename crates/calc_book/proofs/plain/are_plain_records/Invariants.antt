@@ -1,7 +1,7 @@
 use Rattle.std.proofs.Common.{◌≡◌}
 use Rattle.std.specs.List.{list_all}
 use Rattle.calc_book.specs.BookForm.{is_plain_record}
-use Rattle.calc_script.specs.Lines.{lines_of}
+use Rattle.byte_cuts.specs.Lines.{lines_of}
 use Rattle.calc_book.proofs.plain.are_plain_records.Given as goal
 
 -- the records so far are plain

@@ -1,7 +1,7 @@
 use Rattle.std.proofs.Common.{◌≡◌, ◌≤◌, ◌+◌, ◌-◌, length, IsTrue}
 use Rattle.std.specs.Io.KnownBytes.{Consumes, Keeps}
 use Rattle.calc_cli.specs.Inputs.{left_of, other}
-use Rattle.calc_cli.proofs.input.read_all.Given as goal
+use Rattle.calc_cli.proofs.input_bytes.read_all.Given as goal
 
 -- the bytes so far are those that the input lost
 abbrev pub invariant-pieces : goal.invariant-pieces

@@ -1,7 +1,7 @@
 use Rattle.std.proofs.Common.{◌≡◌, [], ◌++◌, map}
 use Rattle.csv.specs.Records.{fields_of, partial_of}
 use Rattle.calc_cli.specs.Records.{row_texts}
-use Rattle.calc_cli.proofs.print.fill_record.Given as goal
+use Rattle.calc_cli.proofs.records.fill_record.Given as goal
 
 -- the texts so far, and those of the cells that are left
 abbrev pub invariant-loop-cell : goal.invariant-loop-cell

@@ -2,9 +2,10 @@ use Rattle.std.proofs.Common.{◌≡◌, ◌++◌, List, ℕ, subst}
 use Rattle.std.specs.List.{flat_map}
 use Rattle.csv.specs.Records.{fields_of}
 use Rattle.calc_addr.specs.Places.{Rectangle, rows_of}
-use Rattle.calc_cli.specs.Records.{row_texts, record_text, Holds}
+use Rattle.calc_cli.specs.Records.{row_texts, record_text}
+use Rattle.calc_cli.specs.Writers.{Holds}
 use Rattle.calc_cli.proofs.Joining.{join_one}
-use Rattle.calc_cli.proofs.print.print_area.Goals as goal
+use Rattle.calc_cli.proofs.records.print_area.Goals as goal
 
 pub loop-row-preserved : goal.loop-row-preserved
 loop-row-preserved g c =

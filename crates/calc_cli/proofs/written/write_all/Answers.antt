@@ -1,8 +1,8 @@
 use Rattle.std.proofs.Common.{◌∙◌, arith, rules}
 use Rattle.calc_io.proofs.Rooms.{RoomFalls-trans}
-use Rattle.calc_cli.specs.Writes.{GrowsWithin}
+use Rattle.calc_cli.specs.Runs.{GrowsWithin}
 use Rattle.calc_cli.proofs.Pieces.{at_error, written_before, written_more, room_for_rest}
-use Rattle.calc_cli.proofs.write.write_all.Goals as goal
+use Rattle.calc_cli.proofs.written.write_all.Goals as goal
 
 pub returns-in_err-written-clause-err : goal.returns-in_err-written-clause-err
 returns-in_err-written-clause-err g c =

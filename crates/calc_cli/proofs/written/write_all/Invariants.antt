@@ -1,7 +1,7 @@
 use Rattle.std.proofs.Common.{◌≡◌, ◌≤◌, ◌-◌, length, take}
 use Rattle.std.specs.Io.KnownBytes.{Appends}
 use Rattle.calc_io.specs.Sink.{HasRoom, RoomFalls}
-use Rattle.calc_cli.proofs.write.write_all.Given as goal
+use Rattle.calc_cli.proofs.written.write_all.Given as goal
 
 -- the bytes so far are written
 abbrev pub invariant-loop-written : goal.invariant-loop-written

@@ -1,5 +1,5 @@
 use Rattle.std.proofs.Common.{◌^◌, min, ap}
-use Rattle.calc_num.proofs.Products.{rounded-product_parts, rounded-product_large}
+use Rattle.calc_num.proofs.Arithmetic.Products.{rounded-product_parts, rounded-product_large}
 use Rattle.calc_num.proofs.multiply.rounded_product.Goals as goal
 
 pub returns-then-wholes : goal.returns-then-wholes

@@ -1,5 +1,5 @@
 use Rattle.std.proofs.Common.{◌^◌, arith}
-use Rattle.calc_num.proofs.Products.{rounded-reduced}
+use Rattle.calc_num.proofs.Arithmetic.Products.{rounded-reduced}
 use Rattle.calc_num.proofs.multiply.rounded_quotient.Goals as goal
 
 pub returns-then-b-eq0 : goal.returns-then-b-eq0

@@ -1,5 +1,5 @@
 use Rattle.std.proofs.Common.{sym}
-use Rattle.calc_num.proofs.Products.{rounded-product}
+use Rattle.calc_num.proofs.Arithmetic.Products.{rounded-product}
 use Rattle.calc_num.proofs.multiply.small_product.Goals as goal
 
 pub returns : goal.returns

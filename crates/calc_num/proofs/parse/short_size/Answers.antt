@@ -2,7 +2,7 @@ use Rattle.std.proofs.Common.{◌≡◌, pos, ◌+ℤ◌, ap, sym, ◌∙◌, ar
 use Rattle.std.specs.Int.{w128}
 use Rattle.std.proofs.lemmas.Int.{to_z-of_z}
 use Rattle.calc_num.specs.Spelling.{digits_number}
-use Rattle.calc_num.proofs.Sizes.{size_of-zeros}
+use Rattle.calc_num.proofs.ReadNumbers.Sizes.{size_of-zeros}
 use Rattle.calc_num.proofs.parse.short_size.Goals as goal
 
 pub returns : goal.returns

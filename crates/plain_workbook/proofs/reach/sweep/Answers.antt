@@ -3,7 +3,7 @@ use Rattle.std.specs.List.{list_all}
 use Rattle.std.specs.Map.Iter.{deref_pair}
 use Rattle.std.proofs.lemmas.Map.Iter.{btree_map_turn}
 use Rattle.calc_addr.specs.Places.{Place, place_cmp}
-use Rattle.calc_addr.proofs.Order.{place_cmp_total}
+use Rattle.calc_addr.proofs.Walking.Order.{place_cmp_total}
 use Rattle.calc_model.specs.declared.content.Content.{Content}
 use Rattle.calc_model.specs.declared.content.Content.TheVariants.{Empty}
 use Rattle.calc_model.specs.Books.{content_at}

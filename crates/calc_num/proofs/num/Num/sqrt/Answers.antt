@@ -1,15 +1,15 @@
-use Rattle.std.proofs.Common.{◌+◌, ◌*◌, ◌^◌, ◌<◌, ◌≤◌, ◌∙◌, Ok, ap, sym, subst, arith}
-use Rattle.calc_num.proofs.Roots.{square_root-is, IsLeastRoot-from_root}
+use Rattle.std.proofs.Common.{ℕ, ◌+◌, ◌*◌, ◌^◌, ◌<◌, ◌≤◌, ◌∙◌, Ok, ap, sym, subst}
+use Rattle.calc_num.proofs.Arithmetic.Roots.{sqrt-is, IsLeastRoot-from}
 use Rattle.calc_num.proofs.num.Num.sqrt.Goals as goal
 
 pub returns-clause-value : goal.returns-clause-value
 returns-clause-value c =
-    let doubled = c.isqrt-doubled.result in
+    let root = c.least_root-root.result in
     let size = c.size.ensures.value in
-    ap Ok c.from_size.ensures ∙ square_root-is c.args.self doubled (sym c.if-is_negative.ensures) (omega arith) (subst (λ n. doubled * doubled ≤ 4 * n * 10 ^ 9) size c.isqrt-doubled.ensures.square_le) (subst (λ n. 4 * n * 10 ^ 9 < (doubled + 1) * (doubled + 1)) size c.isqrt-doubled.ensures.next_square_gt)
+    ap Ok c.from_size.ensures ∙ sqrt-is c.args.self root (sym c.if-is_negative.ensures) (subst (λ n. n < 10 ^ 27) size c.size.ensures.small) (subst (λ n. n * 10 ^ 9 ≤ root * (root + 1)) size c.least_root-root.ensures.past) (subst (λ n. (r : ℕ) → n * 10 ^ 9 ≤ r * (r + 1) → root ≤ r) size c.least_root-root.ensures.least)
 
 pub returns-clause-least : goal.returns-clause-least
 returns-clause-least c =
-    let doubled = c.isqrt-doubled.result in
+    let root = c.least_root-root.result in
     let size = c.size.ensures.value in
-    rw c.from_size.ensures (IsLeastRoot-from_root c.args.self doubled (subst (λ n. doubled * doubled ≤ 4 * n * 10 ^ 9) size c.isqrt-doubled.ensures.square_le) (subst (λ n. 4 * n * 10 ^ 9 < (doubled + 1) * (doubled + 1)) size c.isqrt-doubled.ensures.next_square_gt))
+    rw c.from_size.ensures (IsLeastRoot-from c.args.self root (subst (λ n. n * 10 ^ 9 ≤ root * (root + 1)) size c.least_root-root.ensures.past) (subst (λ n. (r : ℕ) → n * 10 ^ 9 ≤ r * (r + 1) → root ≤ r) size c.least_root-root.ensures.least))

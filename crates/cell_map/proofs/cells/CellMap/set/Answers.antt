@@ -1,23 +1,15 @@
-use Rattle.std.proofs.Common.{sym, ap, ◌∙◌}
-use Rattle.std.specs.BTreeMap.{insert_entry}
-use Rattle.calc_addr.specs.Places.{place_cmp}
-use Rattle.cell_map.proofs.Kept.{inserted, removed}
+use Rattle.std.proofs.Common.{◌≡◌, ◌≤◌, length, sym, subst}
+use Rattle.calc_model.specs.declared.limits.TheConstants.{MOST_CELLS}
+use Rattle.calc_model.specs.Books.{Book, with_content}
+use Rattle.cell_map.proofs.Kept.{set_keeps}
 use Rattle.cell_map.proofs.cells.CellMap.set.Goals as goal
 
-pub invariant_of-self : goal.invariant_of-self
-invariant_of-self c = removed c.self.inside.cells.entries c.args.cell c.self.invariant c.remove.new.self.entries c.remove.ensures.entries
+pub invariant_of-self-2 : goal.invariant_of-self-2
+invariant_of-self-2 c =
+    set_keeps c.self.inside.cells.entries c.put.new.cells.entries c.self.invariant c.args.cell c.args.content c.put.ensures.edit
+    (subst (λ (book : Book). length (with_content book.cells c.args.cell c.args.content) ≤ MOST_CELLS) (sym c.self.view_is) c.requires.room) c.in_ok-put.ensures.ok
 
-pub returns-then-not-is_held-clause-book : goal.returns-then-not-is_held-clause-book
-returns-then-not-is_held-clause-book c = removed c.self.inside.cells.entries c.args.cell c.self.invariant c.remove.new.self.entries c.remove.ensures.entries
-
-pub invariant_of-self-in-Ok : goal.invariant_of-self-in-Ok
-invariant_of-self-in-Ok c =
-    inserted c.self.inside.cells.entries c.args.cell c.self.invariant c.args.content c.in_sheets.ensures.place (sym c.is_held.ensures.content ∙ c.if-not-is_held.false)
-    (sym c.if-not-has_room.false ∙ c.has_room.ensures c.args.content) c.insert.new.self.entries
-    (c.in-Ok.ensures.entries ∙ ap (λ at. insert_entry place_cmp c.self.inside.cells.entries at c.args.content) c.in_sheets.ensures.same)
-
-pub returns-in-Ok-clause-book : goal.returns-in-Ok-clause-book
-returns-in-Ok-clause-book c =
-    inserted c.self.inside.cells.entries c.args.cell c.self.invariant c.args.content c.in_sheets.ensures.place (sym c.is_held.ensures.content ∙ c.if-not-is_held.false)
-    (sym c.if-not-has_room.false ∙ c.has_room.ensures c.args.content) c.insert.new.self.entries
-    (c.in-Ok.ensures.entries ∙ ap (λ at. insert_entry place_cmp c.self.inside.cells.entries at c.args.content) c.in_sheets.ensures.same)
+pub returns-clause-book : goal.returns-clause-book
+returns-clause-book c =
+    set_keeps c.self.inside.cells.entries c.put.new.cells.entries c.self.invariant c.args.cell c.args.content c.put.ensures.edit
+    (subst (λ (book : Book). length (with_content book.cells c.args.cell c.args.content) ≤ MOST_CELLS) (sym c.self.view_is) c.requires.room) c.in_ok-put.ensures.ok

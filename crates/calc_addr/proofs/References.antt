@@ -1,0 +1,9 @@
+-- References of formulas.
+-- EndsInOrder: two ends put in order.
+-- Tests: the test of references says which ones a formula can have.
+-- Inside: what is spelled is one of these.
+-- RoundTrip: printed references read back.
+pub mod EndsInOrder
+pub mod Tests
+pub mod Inside
+pub mod RoundTrip
