@@ -95,7 +95,6 @@ counted text tree h =
     let same = same_Some x tree last.1 in
     let ended : skip bytes ≡ s.text = s.joined ∙ ap (λ b. s.text ++ b) (empty_from read.0.1.bytes last.0) ∙ append-nil s.text in
     let tokens : 1024 ≡ tokens_of x + read.0.1.tokens = s.tokens in
-    let opens = s.opens in
     let spelled : Spells text x = record {
       front = front.front;
       blanks = take_while is_blank bytes;

@@ -87,13 +87,6 @@ module _ (others : ℕ) (nested : Inside) (depth : ℕ) (sound : Sound others ne
       let x = inner.0.0 in
       let passed = signed.passed in
       let counts = sign_counts sign x in
-      let cost = counts.tokens in
-      let opened = counts.opens in
-      let most = counts.parameters in
-      let taken = passed.tokens in
-      let tokens = s.tokens in
-      let opens = s.opens in
-      let parameters = s.parameters in
       let made : (signed_by sign x, inner.0.1) ≡ read = same_Some (signed_by sign x, inner.0.1) read inner.2 in
       subst (λ (r : Tree × Unread). Spelled others 0 (suc depth) unread r.0 r.1) made record {
         text = sign_byte sign ∷ (passed.blanks ++ s.text);
@@ -139,16 +132,8 @@ module _ (others : ℕ) (nested : Inside) (depth : ℕ) (sound : Sound others ne
   percent_stands : (level n : ℕ) (start unread after : Unread) (x : Tree) → Taken level unread o.Percent after → Standing level start (suc n) x unread → Standing level start n (t.Percent x) after
   percent_stands level n start unread after x taken standing =
       let passed = taken.passed in
-      let tokens = passed.tokens in
-      let turns = standing.turns in
       let s = loosen standing.at_level 1 start x unread (subst (λ k. standing.at_level ≤ k) taken.here (standing.allowed (omega arith))) standing.spelled in
       let counts = percent_counts x in
-      let cost = counts.tokens in
-      let opened = counts.opens in
-      let most = counts.parameters in
-      let before = s.tokens in
-      let opens = s.opens in
-      let parameters = s.parameters in
       record {
         at_level = 1;
         within = taken.within;
@@ -167,21 +152,10 @@ module _ (others : ℕ) (nested : Inside) (depth : ℕ) (sound : Sound others ne
   infix_stands : (level n : ℕ) (op : Op) (start unread middle after : Unread) (x y : Tree) → Taken level unread (o.Infix op) middle → Standing level start (suc n) x unread → UpTo (op_level op - 1) middle y after → Standing level start n (t.Binary op x y) after
   infix_stands level n op start unread middle after x y taken standing right =
       let passed = taken.passed in
-      let tokens = passed.tokens in
-      let turns = standing.turns in
       let some = level_some op in
       let s = loosen standing.at_level (op_level op) start x unread (subst (λ k. standing.at_level ≤ k) taken.here (standing.allowed (omega arith))) standing.spelled in
       let r = right.spelled in
       let counts = binary_counts op x y in
-      let cost = counts.tokens in
-      let opened = counts.opens in
-      let most = counts.parameters in
-      let before = s.tokens in
-      let own = r.tokens in
-      let opens = s.opens in
-      let opens_too = r.opens in
-      let parameters = s.parameters in
-      let parameters_too = r.parameters in
       let Left : ℕ → Type 0 = λ k. IsLevel k s.text x in
       let Whole : ℕ → Type 0 = λ k. IsLevel k (s.text ++ (op_text op ++ (passed.blanks ++ r.text))) (t.Binary op x y) in
       record {
@@ -205,7 +179,6 @@ module _ (others : ℕ) (nested : Inside) (depth : ℕ) (sound : Sound others ne
         subst (λ (r : Tree × Unread). Standing level start n r.0 r.1) (same_Some (t.Percent x, middle) read h) (percent_stands level n start unread middle x taken standing)
     attached_stands n (o.Infix op) start unread middle x read taken standing h =
         let some = level_some op in
-        let within = taken.within in
         let right = bind_some (operands_at nested (op_level op - 1) middle) (infix_read (operands_at nested) op x) read h in
         let spelled = tighter (op_level op - 1) (omega arith) middle right.0 right.1 in
         subst (λ (r : Tree × Unread). Standing level start n r.0 r.1) (same_Some (t.Binary op x right.0.0, right.0.1) read right.2) (infix_stands level n op start unread middle right.0.1 x right.0.0 taken standing spelled)
@@ -247,7 +220,6 @@ module _ (others : ℕ) (nested : Inside) (depth : ℕ) (sound : Sound others ne
         let begun : Standing level start first.1.tokens first.0 first.1 = record { at_level = 0; within = omega arith; spelled = s; allowed = λ some. omega arith; turns = omega arith } in
         let end = repeat_says (operator_behind (operands_at nested) level) (λ x unread after e. (stopped x unread after e).0) (Standing level start) (turn_stands start) first.1.tokens first.0 read.0 first.1 read.1 begun h in
         let last = end.holds in
-        let turns = last.turns in
         record {
           spelled = loosen last.at_level level start read.0 read.1 last.within last.spelled;
           ended = elim end.stops [

@@ -25,4 +25,4 @@ pub mod LevelsSpelled
 pub mod FormulasSpelled
 pub mod FormedSpellings
 pub mod Meaning
-mod FieldExamples
+mod Examples

@@ -19,7 +19,7 @@ use Rattle.formula_reader.proofs.LeavesSpelled.{operand_says}
 use Rattle.formula_reader.proofs.NumberFronts.{some_or}
 use Rattle.formula_reader.proofs.SpellingsRead.{call_parts, paren_parts}
 use Rattle.formula_reader.proofs.Steps.{Past, Token, bind_some, either, front_and_behind, map_some, past_says, repeat_says, token_says}
-use Rattle.formula_reader.proofs.TreeCounts.{all_tokens_push, args_tokens, call_counts, most_open, most_open_push, most_parameters, most_parameters_push, open_of, operand_opens, operand_parameters, operand_tokens, paren_counts, parameters_of, tokens_of}
+use Rattle.formula_reader.proofs.TreeCounts.{all_tokens_push, args_tokens, call_counts, most_open, most_open_push, most_parameters, most_parameters_push, open_of, operand_counts, paren_counts, parameters_of, tokens_of}
 
 -- A text of the level is read as the tree, its tokens are taken, fewer parentheses than the depth are open in it, and
 -- its calls have no more parameters than so many others behind the first.
@@ -52,10 +52,7 @@ taken_operand : (others depth : ℕ) (unread : Unread) (x : Tree) (token rest : 
 taken_operand others depth unread x token rest read is joined h =
     let last = map_some (λ (after : Unread). (x, after)) (past unread.tokens rest) read h in
     let passed = past_says unread.tokens rest last.0 last.1 in
-    let cost = operand_tokens is in
-    let opens = operand_opens is in
-    let parameters = operand_parameters is in
-    let taken = passed.tokens in
+    let counts = operand_counts is in
     subst (λ (r : Tree × Unread). Spelled others 0 (suc depth) unread r.0 r.1) last.2 record {
       text = token ++ passed.blanks;
       is_level = primary (operand passed.blanks is passed.are_blank);
@@ -121,19 +118,10 @@ module _ (others : ℕ) (comparison : Unread → Read) (depth : ℕ) (sound : So
           let left = parts.1 in
           let made : (args ++ x ∷ [], second.0.1) ≡ (next, after) = λ i. (grown i, left i) in
           let back = 59 ∷ (passed.blanks ++ s.text) in
-          let taken = passed.tokens in
-          let before = so_far.tokens in
-          let own = s.tokens in
           let added = all_tokens_push args x in
           let len : length (args ++ x ∷ []) ≡ length args + 1 = length-append args (x ∷ []) in
-          let there = so_far.some in
-          let count = so_far.count in
           let opened = most_open_push args x in
           let most = most_parameters_push args x in
-          let opens = so_far.opens in
-          let opens_too = s.opens in
-          let parameters = so_far.parameters in
-          let parameters_too = s.parameters in
           subst (λ (r : List Tree × Unread). ArgsSoFar others depth start n r.0 r.1) made record {
             text = so_far.text ++ back;
             are_args = more passed.blanks so_far.are_args passed.are_blank s.is_level;
@@ -147,9 +135,6 @@ module _ (others : ℕ) (comparison : Unread → Read) (depth : ℕ) (sound : So
 
   more_sound : (unread : Unread) (first : Tree × Unread) (read : List Tree × Unread) → Spelled others 6 depth unread first.0 first.1 → more_args comparison others first ≡ Some read → Args others depth unread read.0 read.1
   more_sound unread first read s h =
-      let tokens = s.tokens in
-      let opens = s.opens in
-      let parameters = s.parameters in
       let begun : ArgsSoFar others depth unread others (first.0 ∷ []) first.1 = record {
         text = s.text;
         are_args = one s.is_level;
@@ -162,7 +147,6 @@ module _ (others : ℕ) (comparison : Unread → Read) (depth : ℕ) (sound : So
       } in
       let ended = repeat_says (arg_behind comparison) arg_stays (ArgsSoFar others depth unread) (arg_sound unread) others (first.0 ∷ []) read.0 first.1 read.1 begun h in
       let last = ended.holds in
-      let count = last.count in
       record {
         text = last.text;
         are_args = some last.are_args;
@@ -209,16 +193,6 @@ module _ (others : ℕ) (nested : Inside) (depth : ℕ) (sound : Sound others ne
       let last = map_some (λ (u : Unread). (call_node nested word args, u)) (token_at 41 third.0.1) read third.2 in
       let closing = token_says 41 third.0.1 last.0 last.1 in
       let counts = call_counts (in_capitals word) args in
-      let tokens = counts.tokens in
-      let opened = counts.opens in
-      let most = counts.parameters in
-      let t1 = passed.tokens in
-      let t2 = opening.passed.tokens in
-      let t3 = inside.tokens in
-      let t4 = closing.passed.tokens in
-      let opens = inside.opens in
-      let parameters = inside.parameters in
-      let count = inside.count in
       let front = opening.passed.blanks in
       let back = closing.passed.blanks in
       let inner = paren_joined after.bytes opening.rest second.0.bytes third.0.1.bytes closing.rest front inside.text back last.0.bytes opening.joined opening.passed.joined inside.joined closing.joined closing.passed.joined in
@@ -258,14 +232,6 @@ module _ (others : ℕ) (nested : Inside) (depth : ℕ) (sound : Sound others ne
       let last = map_some (λ (u : Unread). (t.Paren x, u)) (token_at 41 third.0.1) read third.2 in
       let closing = token_says 41 third.0.1 last.0 last.1 in
       let counts = paren_counts x in
-      let tokens = counts.tokens in
-      let opened = counts.opens in
-      let most = counts.parameters in
-      let t1 = opening.passed.tokens in
-      let t2 = inside.tokens in
-      let t3 = closing.passed.tokens in
-      let opens = inside.opens in
-      let parameters = inside.parameters in
       let front = opening.passed.blanks in
       let back = closing.passed.blanks in
       let inner = paren_joined unread.bytes opening.rest second.0.bytes third.0.1.bytes closing.rest front inside.text back last.0.bytes opening.joined opening.passed.joined inside.joined closing.joined closing.passed.joined in

@@ -26,7 +26,7 @@ use Rattle.formula_reader.proofs.OperatorTexts.{Follows-infix, is_second, level_
 use Rattle.formula_reader.proofs.Prefixes.{no_sign, one_sign}
 use Rattle.formula_reader.proofs.Primaries.{call_read, operand_read, paren_read}
 use Rattle.formula_reader.proofs.Repeats.{repeat_done, repeat_goes}
-use Rattle.formula_reader.proofs.TreeCounts.{Within, within_child, all_tokens_push, args_tokens, binary_counts, call_counts, minus_counts, most_open, most_open_push, most_parameters, most_parameters_push, operand_tokens, paren_counts, percent_counts, plus_counts, tokens_of}
+use Rattle.formula_reader.proofs.TreeCounts.{Within, within_child, all_tokens_push, args_tokens, binary_counts, call_counts, minus_counts, most_open, most_open_push, most_parameters, most_parameters_push, operand_counts, paren_counts, percent_counts, plus_counts, tokens_of}
 use Rattle.formula_reader.proofs.Turns.{arg_stops, arg_token, args_first, operator_found, operator_stops}
 
 -- the text in front of the rest is read as the tree, and costs its tokens
@@ -182,12 +182,10 @@ mutual
       λ rest m follows. unsigned_reads (inside_at others depth) text rest (tokens_of x + m) (primary_no_sign text rest (primary_begins p)) ∙ primary_read p others depth within rest m follows
   level_read (plus {text = text} {x = x} blanks all r) others depth within =
       let counts = plus_counts x in
-      let tokens = counts.tokens in
       let child = within_child counts within in
       λ rest m follows. sign_reads (inside_at others depth) signs.Plus 43 blanks text rest x m (tokens_of (t.Plus x) + m) (λ b. refl) (omega arith) all (level_begins r) (level_read r others depth child rest m follows)
   level_read (minus {text = text} {x = x} blanks all r) others depth within =
       let counts = minus_counts x in
-      let tokens = counts.tokens in
       let child = within_child counts within in
       λ rest m follows. sign_reads (inside_at others depth) signs.Minus 45 blanks text rest x m (tokens_of (t.Minus x) + m) (λ b. refl) (omega arith) all (level_begins r) (level_read r others depth child rest m follows)
   level_read (percent {text = text} {x = x} blanks r all) others depth within =
@@ -198,45 +196,29 @@ mutual
       λ level rest m allowed follows h. claim_runs (inside_at others depth) k level text x (level_read r others depth within) rest m (omega arith) follows (omega arith)
   level_read (operated {level = k} {left = left} {right = right} {x = x} {y = y} op blanks l here all r) others depth within =
       let counts = binary_counts op x y in
-      let opens = within.opens in
-      let parameters = within.parameters in
-      let own = counts.opens in
-      let most = counts.parameters in
       λ level rest m allowed follows h.
       infix_runs (inside_at others depth) k level op blanks left right rest x y m (level_read l others depth (record { opens = omega arith; parameters = omega arith })) here all (level_begins r) allowed follows
       (claim_reads (inside_at others depth) k k right y (level_read r others depth (record { opens = omega arith; parameters = omega arith })) rest m (omega arith) follows h)
 
   primary_read : {text : List ℕ} {x : Tree} → IsPrimary text x → (others depth : ℕ) → Within others depth x → (rest : List ℕ) (m : ℕ) → Follows rest → Reads (primary_at (inside_at others depth)) text x rest m
   primary_read (operand {text = text} {x = x} blanks o all) others depth within rest m follows =
-      let one = operand_tokens o in
+      let counts = operand_counts o in
       operand_read (inside_at others depth) blanks rest m (tokens_of x + m) o (omega arith) all follows
   primary_read (parenthesis {text = text} {x = x} first last a r b) others zero within rest m follows =
-      let opens = within.opens in
       let counts = (paren_counts x).opens in
       absurd (omega arith)
   primary_read (parenthesis {text = text} {x = x} first last a r b) others (suc depth) within rest m follows =
       let counts = paren_counts x in
-      let tokens = counts.tokens in
-      let opened = counts.opens in
-      let kept = counts.parameters in
-      let opens = within.opens in
-      let parameters = within.parameters in
       let back = 41 ∷ (last ++ rest) in
       let inside = level_read r others depth (record { opens = omega arith; parameters = omega arith }) in
       ap (λ bytes. primary_at (inside_at others (suc depth)) (at bytes (tokens_of (t.Paren x) + m))) (paren_parts first text last rest)
       ∙ paren_read (inside_at others (suc depth)) first text last rest x m (tokens_of x + (1 + m)) (tokens_of (t.Paren x) + m) a b (level_no_blanks text back (level_begins r)) follows (omega arith)
       (comparison_reads others depth text x inside back (1 + m) refl (lit< tt))
   primary_read (call {text = text} {args = args} word blanks first last h a b p c) others zero within rest m follows =
-      let opens = within.opens in
       let counts = (call_counts (in_capitals word) args).opens in
       absurd (omega arith)
   primary_read (call {text = text} {args = args} word blanks first last h a b p c) others (suc depth) within rest m follows =
       let counts = call_counts (in_capitals word) args in
-      let tokens = counts.tokens in
-      let opened = counts.opens in
-      let most = counts.parameters in
-      let opens = within.opens in
-      let parameters = within.parameters in
       let node = t.Call (in_capitals word) args in
       ap (λ bytes. primary_at (inside_at others (suc depth)) (at bytes (tokens_of node + m))) (call_parts word blanks first text last rest)
       ∙ call_read (inside_at others (suc depth)) word blanks first text last rest args m (args_tokens args + (1 + m)) (tokens_of node + m) h (lt-ltb 0 (suc depth) (omega arith)) a b c (args_no_blank (last ++ rest) p) follows (omega arith)
