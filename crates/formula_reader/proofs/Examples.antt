@@ -1,4 +1,5 @@
 -- Worked examples of formulas and fields, each computed.
+use Rattle.calc_model.specs.declared.tree.Tree.TheVariants as t
 use Rattle.std.proofs.Common.{◌≡◌, ◌*◌, ◌^◌, ℕ, pos, false, true, List, [], ◌∷◌, ◌++◌, codes, map, None, Some, replicate, refl}
 use Rattle.std.specs.List.{flat_map, list_all, list_any}
 use Rattle.std.specs.Option.{is_some}
@@ -12,7 +13,6 @@ use Rattle.calc_model.specs.declared.content.Content.{Content}
 use Rattle.calc_model.specs.declared.content.Content.TheVariants.{Empty, Constant, Formula, Raw}
 use Rattle.calc_model.specs.declared.tree.Op.TheVariants.{Add, Le, Mul, Pow}
 use Rattle.calc_model.specs.declared.tree.Tree.{Tree}
-use Rattle.calc_model.specs.declared.tree.Tree.TheVariants as t
 use Rattle.formula_reader.specs.Fields.{field_of}
 use Rattle.formula_reader.specs.Reading.{formula_of}
 use Rattle.formula_reader.specs.Unread.{repeat}

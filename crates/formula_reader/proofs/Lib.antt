@@ -1,28 +1,14 @@
-pub mod Identifiers
-pub mod Repeats
-pub mod Levels
-pub mod Prefixes
+-- Steps, Turns, Unquoting: what the code's loops keep. TreeCounts: the tokens, parentheses and parameters of a tree.
+-- Complete: what is spelled is read. Sound: what is read is spelled. Formed: what is spelled is well formed.
+-- Meaning and OneMeaning: the one meaning of fields, for the crates above. Examples: worked ones.
+pub mod Steps
 pub mod Turns
 pub mod Unquoting
-pub mod Steps
-pub mod Fronts
-pub mod NumberFronts
-pub mod Beginnings
-pub mod ErrorFronts
-pub mod Quoting
-pub mod ReferenceTexts
-pub mod ReferenceFronts
-pub mod LeavesSpelled
-pub mod OperatorTexts
-pub mod Capitals
 pub mod TreeCounts
-pub mod Primaries
-pub mod SpellingsRead
-pub mod FormulasRead
-pub mod OperatorsSpelled
-pub mod PrimariesSpelled
-pub mod LevelsSpelled
-pub mod FormulasSpelled
-pub mod FormedSpellings
+pub mod Identifiers
+pub mod Complete
+pub mod Sound
+pub mod Formed
 pub mod Meaning
+pub mod OneMeaning
 mod Examples

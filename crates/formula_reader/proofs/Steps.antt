@@ -1,5 +1,6 @@
--- What a reading that doesn't fail says of its steps.
-use Rattle.std.proofs.Common.{◌≡◌, ◌+◌, ◌-◌, ℕ, zero, suc, Bool, true, false, cond, List, [], ◌∷◌, ◌++◌, drop, Option, Some, None, refl, sym, ap, ◌∙◌, subst, ◌⊎◌, inl, inr, arith}
+-- The steps of a reading: what one says that doesn't fail, and the turns of a repeated one.
+use Rattle.formula_reader.specs.declared.cursor.Stop.TheVariants as stops
+use Rattle.std.proofs.Common.{◌≡◌, ◌+◌, ◌-◌, ℕ, zero, suc, Bool, true, false, cond, List, [], ◌∷◌, ◌++◌, drop, Option, Some, None, refl, sym, ap, ◌∙◌, subst, ◌⊎◌, inl, inr, arith, ◌<◌, length}
 use Rattle.std.specs.Prelude.{◌==◌, option_map}
 use Rattle.std.specs.List.{list_all, prefix_len, take_while}
 use Rattle.std.proofs.lemmas.Bool.{and_from, cond-false, cond-true, eqb-false, eqb-true}
@@ -7,12 +8,9 @@ use Rattle.std.proofs.lemmas.List.{take-append-drop}
 use Rattle.std.proofs.lemmas.List.Sums.{take_while-cons}
 use Rattle.std.proofs.lemmas.Option.{same_Some}
 use Rattle.calc_model.specs.Tokens.{are_blanks, is_blank}
-use Rattle.byte_cuts.specs.Fronts.{behind}
-use Rattle.formula_reader.specs.Unread.{◌>>=◌, Unread, next_is, past, skip, token_at}
-use Rattle.formula_reader.specs.Unread.{go_on, repeat}
-use Rattle.byte_cuts.specs.Fronts.{begins}
-use Rattle.formula_reader.proofs.Fronts.{at}
-use Rattle.formula_reader.proofs.NumberFronts.{some_or}
+use Rattle.byte_cuts.specs.Fronts.{behind, begins}
+use Rattle.formula_reader.specs.Unread.{◌>>=◌, Unread, next_is, past, skip, token_at, go_on, repeat, Fails}
+use Rattle.formula_reader.specs.declared.cursor.Stop.{Stop}
 
 pub bind_some : {A B : Type 0} (o : Option A) (step : A → Option B) (y : B) → (o >>= step) ≡ Some y → (x : A) × (o ≡ Some x) × (step x ≡ Some y)
 bind_some None step y e = cc
@@ -26,6 +24,26 @@ map_some f (Some x) y e = (x, refl, same_Some (f x) y e)
 pub either : {A : Type 0} (P : Type 0) (b : Bool) (x y : Option A) (a : A) → (b ≡ true → x ≡ Some a → P) → (b ≡ false → y ≡ Some a → P) → cond b x y ≡ Some a → P
 either P true x y a h k e = h refl e
 either P false x y a h k e = k refl e
+
+pub empty_from : (text : List ℕ) → (length text == 0) ≡ true → text ≡ []
+empty_from [] h = refl
+empty_from (byte ∷ text) h = absurd (omega (arith, eqb-true (length (byte ∷ text)) 0 h))
+
+pub none_or : {A : Type 0} (b : Bool) (o : Option A) (x : A) → cond b None o ≡ Some x → (b ≡ false) × (o ≡ Some x)
+none_or true o x e = cc
+none_or false o x e = (refl, e)
+
+pub some_or : {A : Type 0} (b : Bool) (o : Option A) (x : A) → cond b o None ≡ Some x → (b ≡ true) × (o ≡ Some x)
+some_or true o x e = (refl, e)
+some_or false o x e = cc
+
+pub mapped_some : {A B : Type 0} (f : A → B) (o : Option A) (y : B) → option_map f o ≡ Some y → (x : A) × (o ≡ Some x)
+mapped_some f None y e = cc
+mapped_some f (Some x) y e = (x, refl)
+
+-- what is left to read
+abbrev pub at : List ℕ → ℕ → Unread
+at bytes tokens = record { bytes = bytes; tokens = tokens }
 
 -- the bytes in front that pass, and what stands behind them
 passes_more : (test : ℕ → Bool) (byte : ℕ) (bytes : List ℕ) (b : Bool) → test byte ≡ b → list_all test (take_while test bytes) ≡ true → list_all test (take_while test (byte ∷ bytes)) ≡ true
@@ -112,3 +130,41 @@ module _ {S : Type 0} (step : S → Unread → Option (Option S × Unread)) (sta
   repeat_says (suc n) state final unread last q h =
       let made = bind_some (step state unread) (go_on (repeat step n) state) (final, last) h in
       ends_by n state final unread last made.0.0 made.0.1 made.1 (λ next r k. repeat_says n next final made.0.1 last r k) q made.2
+
+module _ {S : Type 0} (step : S → Unread → Option (Option S × Unread)) where
+  pub repeat_goes : (n : ℕ) (state next : S) (unread after : Unread) → 0 < n → step state unread ≡ Some (Some next, after) → repeat step n state unread ≡ repeat step (n - 1) next after
+  unfolding repeat
+  repeat_goes zero state next unread after some e = absurd (omega arith)
+  repeat_goes (suc n) state next unread after some e =
+      let one : suc n - 1 ≡ n = omega arith in
+      ap (λ o. o >>= go_on (repeat step n) state) e ∙ ap (λ k. repeat step k next after) (sym one)
+
+  pub repeat_stops : (n : ℕ) (state : S) (unread after : Unread) → 0 < n → step state unread ≡ Some (None, after) → repeat step n state unread ≡ Some (state, after)
+  unfolding repeat
+  repeat_stops zero state unread after some e = absurd (omega arith)
+  repeat_stops (suc n) state unread after some e = ap (λ o. o >>= go_on (repeat step n) state) e
+
+  pub repeat_fails : (n : ℕ) (state : S) (unread : Unread) → 0 < n → step state unread ≡ None → repeat step n state unread ≡ None
+  unfolding repeat
+  repeat_fails zero state unread some e = absurd (omega arith)
+  repeat_fails (suc n) state unread some e = ap (λ o. o >>= go_on (repeat step n) state) e
+
+  pub repeat_ends : (n : ℕ) (state : S) (unread : Unread) → n ≡ 0 → repeat step n state unread ≡ Some (state, unread)
+  unfolding repeat
+  repeat_ends zero state unread e = refl
+  repeat_ends (suc n) state unread e = absurd (omega arith)
+
+  -- where no further step is there, any number of turns gives the same
+  pub repeat_done : (n : ℕ) (state : S) (unread : Unread) → step state unread ≡ Some (None, unread) → repeat step n state unread ≡ Some (state, unread)
+  repeat_done zero state unread e = repeat_ends 0 state unread refl
+  repeat_done (suc n) state unread e = repeat_stops (suc n) state unread unread (omega arith) e
+
+-- What fails for a stop fails for it elsewhere too, where one reading fails with the other.
+pub fails_along : {A B : Type 0} (stop : Stop) (read : Option A) (whole : Option B) → (read ≡ None → whole ≡ None) → Fails stop read → Fails stop whole
+fails_along stops.NoMemory read whole along fails = tt
+fails_along stops.Unspelled read whole along fails = along fails
+
+-- where what a turn rests on fails, all turns do
+pub repeat_fails_along : {S A : Type 0} (step : S → Unread → Option (Option S × Unread)) (stop : Stop) (read : Option A) (n : ℕ) (state : S) (unread : Unread) (whole : Option (S × Unread)) → 0 < n → (read ≡ None → step state unread ≡ None) → repeat step n state unread ≡ whole → Fails stop read → Fails stop whole
+repeat_fails_along step stop read n state unread whole some along same fails =
+    fails_along stop read whole (λ none. sym same ∙ repeat_fails step n state unread some (along none)) fails

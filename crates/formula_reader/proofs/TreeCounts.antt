@@ -1,12 +1,12 @@
 -- The counts of a tree, by its top node.
+use Rattle.calc_model.proofs.TreeFolds as folds
+use Rattle.calc_model.specs.declared.tree.Tree.TheVariants as t
 use Rattle.std.proofs.Common.{◌≡◌, ◌≤◌, ◌+◌, ◌-◌, ℕ, suc, List, [], ◌∷◌, ◌++◌, length, max, map, sum, refl, ap, ◌∙◌, subst, arith}
 use Rattle.std.proofs.lemmas.List.Sums.{fold_push, sum_by_push}
-use Rattle.calc_model.proofs.TreeFolds as folds
 use Rattle.calc_model.specs.Grammar.{IsOperand, error, large_number, name, number, reference, string}
 use Rattle.calc_model.specs.Limits.{Counts, counts_of, counts_step, most, one_more_token, one_token}
 use Rattle.calc_model.specs.declared.tree.Op.{Op}
 use Rattle.calc_model.specs.declared.tree.Tree.{Tree}
-use Rattle.calc_model.specs.declared.tree.Tree.TheVariants as t
 
 abbrev pub tokens_of : Tree → ℕ
 tokens_of x = (counts_of x).tokens

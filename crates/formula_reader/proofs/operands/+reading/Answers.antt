@@ -1,14 +1,13 @@
 -- The loops of operators and of parameters, and that a call's name is a text.
+use Rattle.formula_reader.proofs.operands.+reading.Goals as goal
 use Rattle.std.proofs.Common.{◌≡◌, ◌-◌, ◌+◌, [], ◌∷◌, ◌++◌, Some, None, sym, ap, ◌∙◌, arith}
 use Rattle.std.proofs.lemmas.Result.{err_from_is_err_and}
 use Rattle.formula_reader.specs.Unread.{◌>>=◌, repeat, token_at, unread_of}
 use Rattle.formula_reader.specs.Operators.{operator_taken}
 use Rattle.formula_reader.specs.Operands.{arg_behind, args_at, attached, comparison_of, inside_of, more_made, operands_at, operator_behind, operators_behind, prefixed_at, pushed}
 use Rattle.formula_reader.proofs.Identifiers.{identifier_IsUtf8}
-use Rattle.formula_reader.proofs.Levels.{operands_is}
-use Rattle.formula_reader.proofs.Repeats.{fails_along, repeat_ends, repeat_fails_along, repeat_goes, repeat_stops}
-use Rattle.formula_reader.proofs.Turns.{arg_stops, arg_token, operator_fails, operator_found, operator_stops}
-use Rattle.formula_reader.proofs.operands.+reading.Goals as goal
+use Rattle.formula_reader.proofs.Turns.{operands_is, arg_stops, arg_token, operator_fails, operator_found, operator_stops}
+use Rattle.formula_reader.proofs.Steps.{fails_along, repeat_ends, repeat_fails_along, repeat_goes, repeat_stops}
 
 pub operands-returns-in_err-tree : goal.operands-returns-in_err-tree
 operands-returns-in_err-tree t c =

@@ -1,8 +1,8 @@
+use Rattle.formula_reader.proofs.signs.signed.Goals as goal
 use Rattle.std.proofs.Common.{◌≡◌, [], ◌∷◌, ◌++◌, Vec, Global, ap, sym, ◌∙◌}
 use Rattle.std.specs.Option.{option_to_list}
 use Rattle.formula_reader.specs.Signs.{signed}
-use Rattle.formula_reader.proofs.Prefixes.{signed_push}
-use Rattle.formula_reader.proofs.signs.signed.Goals as goal
+use Rattle.formula_reader.proofs.Turns.{signed_push}
 
 pub loop-sign-preserved : goal.loop-sign-preserved
 loop-sign-preserved c =

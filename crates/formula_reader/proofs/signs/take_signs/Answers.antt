@@ -1,11 +1,11 @@
+use Rattle.formula_reader.proofs.signs.take_signs.Goals as goal
 use Rattle.std.proofs.Common.{◌≡◌, Some, None, ap, ◌∙◌}
 use Rattle.std.proofs.lemmas.Result.{err_from_is_err_and}
 use Rattle.formula_reader.specs.Operands.{prefixed_at}
 use Rattle.formula_reader.specs.Signs.{sign_taken, signs_read}
 use Rattle.formula_reader.specs.Unread.{◌>>=◌, unread_of}
-use Rattle.formula_reader.proofs.Prefixes.{no_some, sign_tokens, signs_end, signs_fail, signs_go}
-use Rattle.formula_reader.proofs.Repeats.{fails_along}
-use Rattle.formula_reader.proofs.signs.take_signs.Goals as goal
+use Rattle.formula_reader.proofs.Turns.{no_some, sign_tokens, signs_end, signs_fail, signs_go}
+use Rattle.formula_reader.proofs.Steps.{fails_along}
 
 pub returns-in_err-sign : goal.returns-in_err-sign
 returns-in_err-sign c =

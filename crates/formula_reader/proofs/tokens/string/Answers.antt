@@ -1,13 +1,13 @@
+use Rattle.calc_model.specs.declared.tree.Tree.TheVariants as t
+use Rattle.formula_reader.proofs.tokens.string.Goals as goal
 use Rattle.std.proofs.Common.{◌≡◌, Vec, Global, Some, true, false, ℕ, sym, ap, ◌∙◌}
 use Rattle.std.specs.Prelude.{option_map}
 use Rattle.std.specs.Str.{is_utf8}
 use Rattle.std.specs.String.{string_bytes}
 use Rattle.std.proofs.lemmas.Bool.{cond-false, cond-true, false_from_ne_true}
 use Rattle.std.proofs.lemmas.Str.{IsUtf8-from_is_utf8, IsUtf8-string_bytes, is_utf8-from_IsUtf8}
-use Rattle.calc_model.specs.declared.tree.Tree.TheVariants as t
 use Rattle.formula_reader.specs.Leaves.{taken, words_of}
 use Rattle.formula_reader.specs.Unread.{◌>>=◌, Unread, unread_of}
-use Rattle.formula_reader.proofs.tokens.string.Goals as goal
 
 pub returns-in-Ok : goal.returns-in-Ok
 returns-in-Ok c =

@@ -1,9 +1,9 @@
+use Rattle.formula_reader.proofs.tokens.unquoted.Goals as goal
 use Rattle.std.proofs.Common.{◌≡◌, ◌<◌, ◌≤◌, ◌+◌, ◌++◌, ◌∷◌, [], Some, None, false, true, length, drop, ap, sym, ◌∙◌, arith}
 use Rattle.std.specs.List.{position_or_len}
 use Rattle.std.proofs.lemmas.List.{append-nil, length-drop}
 use Rattle.formula_reader.specs.Leaves.{unquoted}
 use Rattle.formula_reader.proofs.Unquoting.{is_quote, prepended, prepended_none, prepended_push, quote_ends, quoteless, run_read, second_quote}
-use Rattle.formula_reader.proofs.tokens.unquoted.Goals as goal
 
 pub loop-run-init : goal.loop-run-init
 loop-run-init c = ap (λ text. prepended text (unquoted false c.args.bytes.now)) c.new-text.ensures.items ∙ prepended_none (unquoted false c.args.bytes.now)

@@ -1,7 +1,7 @@
+use Rattle.formula_reader.proofs.tokens.unquoted.Given as goal
 use Rattle.std.proofs.Common.{◌≡◌, false, length}
 use Rattle.formula_reader.specs.Leaves.{unquoted}
 use Rattle.formula_reader.proofs.Unquoting.{prepended}
-use Rattle.formula_reader.proofs.tokens.unquoted.Given as goal
 
 abbrev pub invariant-loop-run : goal.invariant-loop-run
 invariant-loop-run l = prepended l.text.items (unquoted false l.left) ≡ unquoted false l.fn.bytes

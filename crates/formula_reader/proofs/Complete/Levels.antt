@@ -1,33 +1,101 @@
 -- Every text that stands at a level of the grammar is read as its tree, where the limits hold.
-use Rattle.std.proofs.Common.{◌≡◌, ◌≤◌, ◌<◌, ◌+◌, ◌-◌, ℕ, zero, suc, true, false, List, [], ◌∷◌, ◌++◌, length, Option, Some, None, refl, sym, ap, ◌∙◌, subst, append_assoc, lit<, arith}
+use Rattle.formula_reader.specs.declared.operators.Operator.TheVariants as o
+use Rattle.calc_model.specs.declared.tree.Tree.TheVariants as t
+use Rattle.formula_reader.specs.declared.signs.Sign.TheVariants as signs
+use Rattle.std.proofs.Common.{◌≡◌, ◌<◌, ◌≤◌, ◌+◌, ℕ, nat_le, Bool, true, false, ◌||◌, List, [], ◌∷◌, ◌++◌, Option, Some, None, refl, ap, ◌∙◌, arith, ◌-◌, zero, suc, length, sym, subst, append_assoc, lit<}
 use Rattle.std.specs.Prelude.{◌==◌, option_map}
-use Rattle.std.proofs.lemmas.Bool.{cond-true, lt-ltb}
-use Rattle.std.proofs.lemmas.Bool.Decides.{nat_tests}
-use Rattle.std.proofs.lemmas.List.{length-append}
-use Rattle.byte_cuts.specs.Fronts.{begins}
-use Rattle.byte_cuts.proofs.Fronts.{begins-append}
-use Rattle.calc_model.specs.Grammar.{AreArgs, AreSomeArgs, IsPrimary, IsLevel, call, in_capitals, looser, minus, more, none, one, op_level, op_text, operand, operated, parenthesis, percent, plus, primary, some}
+use Rattle.std.proofs.lemmas.Bool.{cond-false, cond-true, le-leb, lt-leb, or_parts, lt-ltb}
+use Rattle.calc_model.specs.Grammar.{op_level, op_text, AreArgs, AreSomeArgs, IsPrimary, IsLevel, call, in_capitals, looser, minus, more, none, one, operand, operated, parenthesis, percent, plus, primary, some}
 use Rattle.calc_model.specs.Tokens.{are_blanks, is_blank}
 use Rattle.calc_model.specs.declared.tree.Op.{Op}
-use Rattle.calc_model.specs.declared.tree.Tree.{Tree}
-use Rattle.calc_model.specs.declared.tree.Tree.TheVariants as t
+use Rattle.calc_model.specs.declared.tree.Op.TheVariants.{Pow, Mul, Div, Add, Sub, Cat, Eq, Ne, Lt, Le, Gt, Ge}
 use Rattle.formula_reader.specs.declared.operators.Operator.{Operator}
-use Rattle.formula_reader.specs.declared.operators.Operator.TheVariants as o
+use Rattle.formula_reader.specs.Operators.{beside_some, level_of, operator_at, operator_taken, taken_by, up_to}
+use Rattle.byte_cuts.specs.Fronts.{begins}
+use Rattle.formula_reader.proofs.Complete.Leaves.{Follows, past-blanks, past-token, begins_other}
+use Rattle.formula_reader.proofs.Steps.{at, repeat_done, repeat_goes}
+use Rattle.std.proofs.lemmas.Bool.Decides.{nat_tests}
+use Rattle.std.proofs.lemmas.List.{length-append}
+use Rattle.byte_cuts.proofs.Fronts.{begins-append}
+use Rattle.calc_model.specs.declared.tree.Tree.{Tree}
 use Rattle.formula_reader.specs.declared.signs.Sign.{Sign}
-use Rattle.formula_reader.specs.declared.signs.Sign.TheVariants as signs
-use Rattle.formula_reader.specs.Operators.{operator_taken}
 use Rattle.formula_reader.specs.Signs.{sign_at, sign_by, sign_found, sign_read, sign_taken, signed_by}
 use Rattle.formula_reader.specs.Unread.{◌>>=◌, Read, Unread, next_is, past, repeat}
 use Rattle.formula_reader.specs.Operands.{Inside, arg_behind, args_at, attached, comparison_at, infix_read, inside_at, more_args, more_made, operands_at, operator_behind, operators_behind, prefixed_at, primary_at, pushed}
-use Rattle.formula_reader.proofs.Beginnings.{behind_blanks, is_level_start, level_begins, level_no_blanks, primary_begins, primary_no_sign, some_begins}
-use Rattle.formula_reader.proofs.Fronts.{Follows, at, begins_other, past-blanks}
-use Rattle.formula_reader.proofs.Levels.{operands_is}
-use Rattle.formula_reader.proofs.OperatorTexts.{Follows-infix, is_second, level_behind, level_behind-infix, operator_infix, operator_none, operator_percent}
-use Rattle.formula_reader.proofs.Prefixes.{no_sign, one_sign}
-use Rattle.formula_reader.proofs.Primaries.{call_read, operand_read, paren_read}
-use Rattle.formula_reader.proofs.Repeats.{repeat_done, repeat_goes}
+use Rattle.formula_reader.proofs.Complete.Beginnings.{behind_blanks, is_level_start, level_begins, level_no_blanks, primary_begins, primary_no_sign, some_begins}
+use Rattle.formula_reader.proofs.Turns.{operands_is, no_sign, one_sign, arg_stops, arg_token, args_first, operator_found, operator_stops}
+use Rattle.formula_reader.proofs.Complete.Primaries.{call_read, operand_read, paren_read}
 use Rattle.formula_reader.proofs.TreeCounts.{Within, within_child, all_tokens_push, args_tokens, binary_counts, call_counts, minus_counts, most_open, most_open_push, most_parameters, most_parameters_push, operand_counts, paren_counts, percent_counts, plus_counts, tokens_of}
-use Rattle.formula_reader.proofs.Turns.{arg_stops, arg_token, args_first, operator_found, operator_stops}
+
+-- the second byte of an operator of two bytes
+abbrev pub is_second : ℕ → Bool
+is_second byte = (byte == 61) || (byte == 62)
+
+abbrev pub level_found : Option (Operator × List ℕ) → ℕ
+level_found None = 7
+level_found (Some found) = level_of found.0
+
+-- the level of the operator in front, which ends those below it; no operator ends them all
+abbrev pub level_behind : List ℕ → ℕ
+level_behind text = level_found (operator_at text)
+
+pub infix_in_front : (op : Op) (rest : List ℕ) → begins is_second rest ≡ false → operator_at (op_text op ++ rest) ≡ Some (o.Infix op, rest)
+infix_in_front Pow rest h = refl
+infix_in_front Mul rest h = refl
+infix_in_front Div rest h = refl
+infix_in_front Add rest h = refl
+infix_in_front Sub rest h = refl
+infix_in_front Cat rest h = refl
+infix_in_front Eq rest h = refl
+infix_in_front Ne rest h = refl
+infix_in_front Lt [] h = refl
+infix_in_front Lt (byte ∷ rest) h =
+    let parts = or_parts (byte == 61) (byte == 62) h in
+    ap Some (cond-false (byte == 62) _ _ parts.1 ∙ cond-false (byte == 61) _ _ parts.0)
+infix_in_front Le rest h = refl
+infix_in_front Gt [] h = refl
+infix_in_front Gt (byte ∷ rest) h =
+    let parts = or_parts (byte == 61) (byte == 62) h in
+    ap Some (cond-false (byte == 61) _ _ parts.0)
+infix_in_front Ge rest h = refl
+
+pub Follows-infix : (op : Op) (rest : List ℕ) → Follows (op_text op ++ rest)
+Follows-infix Pow rest = refl
+Follows-infix Mul rest = refl
+Follows-infix Div rest = refl
+Follows-infix Add rest = refl
+Follows-infix Sub rest = refl
+Follows-infix Cat rest = refl
+Follows-infix Eq rest = refl
+Follows-infix Ne rest = refl
+Follows-infix Lt rest = refl
+Follows-infix Le rest = refl
+Follows-infix Gt rest = refl
+Follows-infix Ge rest = refl
+
+pub level_behind-infix : (op : Op) (rest : List ℕ) → begins is_second rest ≡ false → level_behind (op_text op ++ rest) ≡ op_level op
+level_behind-infix op rest h = ap level_found (infix_in_front op rest h)
+
+up_to_none : (level : ℕ) (found : Option (Operator × List ℕ)) → level < level_found found → up_to level found ≡ None
+up_to_none level None h = refl
+up_to_none level (Some found) h = cond-false (nat_le (level_of found.0) level) _ _ (lt-leb (level_of found.0) level h)
+
+pub operator_none : (level : ℕ) (rest : List ℕ) (m : ℕ) → level < level_behind rest → operator_taken level (at rest m) ≡ Some (None, at rest m)
+unfolding operator_taken
+operator_none level rest m h = ap (taken_by (at rest m)) (up_to_none level (operator_at rest) h)
+
+pub operator_infix : (op : Op) (level : ℕ) (blanks rest : List ℕ) (m n : ℕ) → op_level op ≤ level → n ≡ 1 + m → are_blanks blanks ≡ true → begins is_second (blanks ++ rest) ≡ false → begins is_blank rest ≡ false → operator_taken level (at (op_text op ++ (blanks ++ rest)) n) ≡ Some (Some (o.Infix op), at rest m)
+unfolding operator_taken
+operator_infix op level blanks rest m n within tokens all second clean =
+    ap (λ found. taken_by (at (op_text op ++ (blanks ++ rest)) n) (up_to level found)) (infix_in_front op (blanks ++ rest) second)
+    ∙ ap (taken_by (at (op_text op ++ (blanks ++ rest)) n)) (cond-true (nat_le (op_level op) level) _ _ (le-leb (op_level op) level within))
+    ∙ ap (option_map (beside_some (o.Infix op))) (past-blanks blanks rest m n tokens all clean)
+
+pub operator_percent : (level : ℕ) (blanks rest : List ℕ) (m n : ℕ) → 1 ≤ level → n ≡ 1 + m → are_blanks blanks ≡ true → Follows rest → operator_taken level (at (37 ∷ (blanks ++ rest)) n) ≡ Some (Some o.Percent, at rest m)
+unfolding operator_taken
+operator_percent level blanks rest m n within tokens all follows =
+    ap (taken_by (at (37 ∷ (blanks ++ rest)) n)) (cond-true (nat_le 1 level) _ _ (le-leb 1 level within))
+    ∙ ap (option_map (beside_some o.Percent)) (past-token blanks rest m n tokens all follows)
 
 -- the text in front of the rest is read as the tree, and costs its tokens
 abbrev pub Reads : (Unread → Read) → List ℕ → Tree → List ℕ → ℕ → Type 0

@@ -1,4 +1,5 @@
 -- What stands between the brackets of a reference has no closing bracket.
+use Rattle.calc_addr.specs.declared.reference.Span.TheVariants as span
 use Rattle.std.proofs.Common.{◌≡◌, ◌+◌, ◌-◌, ◌<◌, ℕ, zero, suc, Bool, true, false, not, ◌&&◌, ◌||◌, cond, nat_eq, nat_le, Option, Some, None, List, [], ◌∷◌, ◌++◌, length, get_or, take, drop, drop-cons, map, codes, refl, sym, ap, ◌∙◌, subst, arith}
 use Rattle.std.specs.Prelude.{◌==◌, option_map, slice_index}
 use Rattle.std.specs.Char.{is_ascii_alphabetic, is_ascii_digit, to_ascii_lowercase}
@@ -11,10 +12,8 @@ use Rattle.std.proofs.lemmas.Slice.Eq.{bytes_eq-Decides}
 use Rattle.std.proofs.lemmas.List.Folds.{list_any-append}
 use Rattle.calc_addr.specs.Bracketed.{after_point, column_end, corner_ends, end_of, inside, one_cell, row_end, spelled_reference, spelled_span, two_cells, two_columns, two_ends, two_rows, bare_name, written_sheet}
 use Rattle.calc_addr.specs.Ends.{in_order, reference_of, whole}
-use Rattle.calc_addr.specs.declared.reference.Span.TheVariants as span
 use Rattle.calc_addr.specs.References.{Reference}
-use Rattle.formula_reader.proofs.NumberFronts.{empty_from}
-use Rattle.formula_reader.proofs.Steps.{either}
+use Rattle.formula_reader.proofs.Steps.{empty_from, either}
 use Rattle.calc_addr.specs.Spelling.{are_digits, are_digits_or_zero, are_letters, column_len, column_part, is_colon, is_point, row_part, sheet_number, sheet_of, undollared}
 use Rattle.calc_addr.specs.declared.read.Spelled.{Spelled}
 use Rattle.calc_addr.specs.declared.read.Spelled.TheVariants.{Is, Outside, Not}

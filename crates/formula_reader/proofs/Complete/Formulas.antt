@@ -12,11 +12,12 @@ use Rattle.calc_model.specs.declared.tree.Tree.{Tree}
 use Rattle.formula_reader.specs.Unread.{◌>>=◌}
 use Rattle.formula_reader.specs.Reading.{behind_front, comparison_within, formula_by, formula_of, formula_within, whole, without}
 use Rattle.formula_reader.specs.Operands.{inside_at, operands_at}
-use Rattle.formula_reader.proofs.Beginnings.{behind_blanks, is_level_start, level_begins, level_no_blank}
+use Rattle.formula_reader.proofs.Complete.Beginnings.{behind_blanks, is_level_start, level_begins, level_no_blank}
 use Rattle.byte_cuts.specs.Fronts.{begins}
 use Rattle.byte_cuts.proofs.Fronts.{behind-all}
-use Rattle.formula_reader.proofs.Fronts.{at, begins_other}
-use Rattle.formula_reader.proofs.SpellingsRead.{claim_reads, level_read}
+use Rattle.formula_reader.proofs.Steps.{at}
+use Rattle.formula_reader.proofs.Complete.Leaves.{begins_other}
+use Rattle.formula_reader.proofs.Complete.Levels.{claim_reads, level_read}
 use Rattle.formula_reader.proofs.TreeCounts.{open_of, parameters_of, tokens_of}
 
 abbrev is_equals : ℕ → Bool

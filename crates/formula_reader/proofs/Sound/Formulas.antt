@@ -13,11 +13,9 @@ use Rattle.calc_model.specs.declared.tree.Tree.{Tree}
 use Rattle.formula_reader.specs.Unread.{◌>>=◌, Unread, next_is, skip}
 use Rattle.formula_reader.specs.Reading.{behind_equals, behind_front, comparison_within, formula_by, formula_of, formula_within, whole, without}
 use Rattle.formula_reader.specs.Operands.{inside_at, operands_at}
-use Rattle.formula_reader.proofs.FormulasRead.{one_tree}
-use Rattle.formula_reader.proofs.Fronts.{at}
-use Rattle.formula_reader.proofs.NumberFronts.{empty_from, some_or}
-use Rattle.formula_reader.proofs.LevelsSpelled.{inside_sound}
-use Rattle.formula_reader.proofs.Steps.{bind_some, front_and_behind, front_passes}
+use Rattle.formula_reader.proofs.Complete.Formulas.{one_tree}
+use Rattle.formula_reader.proofs.Steps.{at, empty_from, some_or, bind_some, front_and_behind, front_passes}
+use Rattle.formula_reader.proofs.Sound.Levels.{inside_sound}
 use Rattle.formula_reader.proofs.TreeCounts.{open_of, parameters_of, tokens_of}
 
 -- the signs of equality in front

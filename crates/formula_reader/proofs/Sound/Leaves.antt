@@ -1,4 +1,6 @@
 -- What is read as an operand by itself is the token of one.
+use Rattle.calc_num.specs.declared.parse.Reading.TheVariants as readings
+use Rattle.calc_model.specs.declared.tree.Tree.TheVariants as t
 use Rattle.std.proofs.Common.{◌≡◌, ◌+◌, ℕ, zero, suc, Bool, true, false, not, ◌||◌, nat_eq, cond, List, [], ◌∷◌, ◌++◌, length, take, drop, codes, Option, Some, None, refl, sym, ap, ◌∙◌, subst, append_assoc, arith}
 use Rattle.std.specs.Prelude.{◌==◌, option_map}
 use Rattle.std.specs.Char.{is_ascii_digit}
@@ -12,7 +14,6 @@ use Rattle.std.proofs.lemmas.Slice.Eq.{bytes_eq-Decides}
 use Rattle.calc_num.specs.Fronts.{unsigned_len}
 use Rattle.calc_num.specs.Spelling.{reading}
 use Rattle.calc_num.specs.declared.parse.Reading.{Reading}
-use Rattle.calc_num.specs.declared.parse.Reading.TheVariants as readings
 use Rattle.calc_addr.specs.Bracketed.{spelled_reference}
 use Rattle.calc_model.specs.Contents.{is_error_constant}
 use Rattle.calc_model.specs.Field.{error_constants}
@@ -22,13 +23,10 @@ use Rattle.calc_model.specs.ValueTexts.{fault_text}
 use Rattle.calc_model.specs.declared.fault.Fault.{Fault}
 use Rattle.calc_model.specs.declared.fault.Fault.TheVariants.{Over}
 use Rattle.calc_model.specs.declared.tree.Tree.{Tree}
-use Rattle.calc_model.specs.declared.tree.Tree.TheVariants as t
 use Rattle.formula_reader.specs.Leaves.{error_at, error_tree, is_closing, number_at, number_tree, operand_at, prepend, reference_at, reference_tree, string_at, unquoted, words_of}
 use Rattle.formula_reader.specs.Unread.{beside}
-use Rattle.formula_reader.proofs.NumberFronts.{some_or}
-use Rattle.formula_reader.proofs.Quoting.{quoted_parts}
-use Rattle.formula_reader.proofs.ReferenceFronts.{bracketed_parts}
-use Rattle.formula_reader.proofs.Steps.{bind_some, either, map_some}
+use Rattle.formula_reader.proofs.Steps.{some_or, bind_some, either, map_some}
+use Rattle.formula_reader.proofs.Complete.Leaves.{quoted_parts, bracketed_parts}
 
 -- the token in front, and what stands behind it
 pub record Found (bytes : List ℕ) (x : Tree) (rest : List ℕ) : Type 0 where

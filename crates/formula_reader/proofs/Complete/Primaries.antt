@@ -1,4 +1,5 @@
 -- How operands, parentheses and calls are read where something may follow them.
+use Rattle.calc_model.specs.declared.tree.Tree.TheVariants as t
 use Rattle.std.proofs.Common.{◌≡◌, ◌+◌, ℕ, true, false, ◌||◌, ◌&&◌, List, [], ◌∷◌, ◌++◌, Some, codes, refl, ap, ◌∙◌, append_assoc, arith}
 use Rattle.std.specs.Prelude.{◌==◌, option_map}
 use Rattle.std.specs.Char.{is_ascii_digit}
@@ -13,19 +14,15 @@ use Rattle.calc_model.specs.Contents.{is_error_constant}
 use Rattle.calc_model.specs.declared.fault.Fault.{Fault}
 use Rattle.calc_model.specs.declared.fault.Fault.TheVariants.{NA, DivZero, BadValue, BadRef, BadName, BadNum, Null, Over, Syntax, Circular}
 use Rattle.calc_model.specs.declared.tree.Tree.{Tree}
-use Rattle.calc_model.specs.declared.tree.Tree.TheVariants as t
 use Rattle.formula_reader.specs.declared.operands.Start.TheVariants.{Operand, Word}
 use Rattle.formula_reader.specs.Leaves.{error_at, number_at, number_tree, operand_at, taken, token_taken}
 use Rattle.formula_reader.specs.Unread.{◌>>=◌, Unread, beside, next_is, past}
 use Rattle.formula_reader.specs.Operands.{Inside, args_at, call_behind, call_node, closed, name_of, primary_at, primary_by, start_of, word_behind}
-use Rattle.formula_reader.proofs.Beginnings.{behind_blanks, identifier_begins, identifier_bytes, is_number_start, number_begins}
-use Rattle.formula_reader.proofs.ErrorFronts.{error_in_front}
+use Rattle.formula_reader.proofs.Complete.Beginnings.{behind_blanks, identifier_begins, identifier_bytes, is_number_start, number_begins}
+use Rattle.formula_reader.proofs.Complete.Leaves.{error_in_front, Follows, Stops, Stops-append, is_no_stop, past-blanks, past-token, number_in_front, quoted_parts, string_in_front, bracketed_parts, reference_in_front}
 use Rattle.byte_cuts.specs.Fronts.{begins}
 use Rattle.byte_cuts.proofs.Fronts.{begins-append, begins_less, behind-all, take_while-all}
-use Rattle.formula_reader.proofs.Fronts.{Follows, Stops, Stops-append, at, is_no_stop, past-blanks, past-token}
-use Rattle.formula_reader.proofs.NumberFronts.{number_in_front}
-use Rattle.formula_reader.proofs.Quoting.{quoted_parts, string_in_front}
-use Rattle.formula_reader.proofs.ReferenceFronts.{bracketed_parts, reference_in_front}
+use Rattle.formula_reader.proofs.Steps.{at}
 use Rattle.formula_reader.proofs.Identifiers.{name_is_identifier}
 
 -- the token is read as an operand by itself

@@ -19,8 +19,8 @@ use Rattle.formula_reader.specs.Leaves.{number_tree}
 use Rattle.formula_reader.specs.Signs.{sign_at}
 use Rattle.byte_cuts.specs.Fronts.{begins}
 use Rattle.byte_cuts.proofs.Fronts.{begins-append}
-use Rattle.formula_reader.proofs.Fronts.{begins_other}
-use Rattle.formula_reader.proofs.NumberFronts.{no_sign_behind, none_or, read_unsigned}
+use Rattle.formula_reader.proofs.Complete.Leaves.{begins_other, no_sign_behind, read_unsigned}
+use Rattle.formula_reader.proofs.Steps.{none_or}
 use Rattle.formula_reader.proofs.Identifiers.{name_is_identifier}
 
 abbrev pub is_number_start : ℕ → Bool

@@ -1,4 +1,7 @@
 -- A tree that a text spells is formed.
+use Rattle.calc_num.specs.declared.parse.Reading.TheVariants as readings
+use Rattle.calc_model.proofs.TreeFolds as folds
+use Rattle.calc_model.specs.declared.tree.Tree.TheVariants as t
 use Rattle.std.proofs.Common.{◌≡◌, ◌≤◌, ◌-◌, ◌&&◌, nat_le, ℕ, ℤ, suc, Bool, true, false, List, [], ◌∷◌, ◌++◌, map, Option, Some, None, refl, sym, ap, ◌∙◌, subst, cond, arith}
 use Rattle.std.specs.Prelude.{◌==◌}
 use Rattle.std.specs.List.{list_all}
@@ -7,12 +10,10 @@ use Rattle.std.proofs.lemmas.Bool.{and_from, le-leb, or_parts}
 use Rattle.std.proofs.lemmas.List.Folds.{list_all-append}
 use Rattle.calc_num.specs.Decimals.{is_raw}
 use Rattle.calc_num.specs.Spelling.{Unsigned, behind_sign, is_negative, nearest_raw, reading_of, unsigned}
-use Rattle.calc_num.specs.declared.parse.Reading.TheVariants as readings
 use Rattle.calc_num.proofs.ReadNumbers.InRange.{reading-ok}
 use Rattle.calc_addr.proofs.References.Inside.{spelled_references_lie_inside}
 use Rattle.calc_addr.proofs.References.Tests.{valid-tested}
 use Rattle.calc_addr.specs.ValidReferences.{is_valid_reference}
-use Rattle.calc_model.proofs.TreeFolds as folds
 use Rattle.calc_model.specs.Contents.{is_error_constant}
 use Rattle.calc_model.specs.Formed.{Form, form_of, form_step, stands_within, is_formed, is_not_negative, is_well_formed}
 use Rattle.calc_model.specs.Grammar.{AreArgs, AreSomeArgs, IsOperand, IsPrimary, IsLevel, Spells, call, error, in_capitals, is_signed, large_number, looser, minus, more, name, none, number, one, op_level, operand, operated, parenthesis, percent, plus, primary, reference, some, string}
@@ -20,8 +21,7 @@ use Rattle.calc_model.specs.Limits.{InLimits, is_in_limits}
 use Rattle.calc_model.specs.Tokens.{has_no_small_letter, is_identifier, is_name}
 use Rattle.calc_model.specs.declared.fault.Fault.TheVariants.{Over}
 use Rattle.calc_model.specs.declared.tree.Tree.{Tree}
-use Rattle.calc_model.specs.declared.tree.Tree.TheVariants as t
-use Rattle.formula_reader.proofs.Capitals.{capitals_identifier, no_small}
+use Rattle.formula_reader.proofs.Identifiers.{capitals_identifier, no_small}
 
 -- formed, and at that level or a tighter one
 record At (level : ℕ) (x : Tree) : Type 0 where

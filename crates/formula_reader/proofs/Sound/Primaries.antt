@@ -1,4 +1,5 @@
 -- What is read as a primary is spelled so, within the limits.
+use Rattle.calc_model.specs.declared.tree.Tree.TheVariants as t
 use Rattle.std.proofs.Common.{◌≡◌, ◌≤◌, ◌<◌, ◌+◌, ◌-◌, ℕ, suc, Bool, true, false, cond, ◌&&◌, List, [], ◌∷◌, ◌++◌, length, Option, Some, None, refl, sym, ap, ◌∙◌, subst, append_assoc, arith}
 use Rattle.std.specs.Prelude.{option_map}
 use Rattle.std.specs.List.{take_while}
@@ -9,16 +10,14 @@ use Rattle.byte_cuts.specs.Fronts.{behind}
 use Rattle.calc_model.specs.Grammar.{AreArgs, AreSomeArgs, IsOperand, IsLevel, call, in_capitals, more, name, none, one, operand, parenthesis, primary, some}
 use Rattle.calc_model.specs.Tokens.{is_identifier, is_in_identifier, is_name}
 use Rattle.calc_model.specs.declared.tree.Tree.{Tree}
-use Rattle.calc_model.specs.declared.tree.Tree.TheVariants as t
 use Rattle.formula_reader.specs.declared.operands.Start.{Start}
 use Rattle.formula_reader.specs.declared.operands.Start.TheVariants.{Operand, Parenthesis, Word}
 use Rattle.formula_reader.specs.Leaves.{operand_at, taken, token_taken}
 use Rattle.formula_reader.specs.Unread.{◌>>=◌, Read, Unread, beside, next_is, past, token_at}
 use Rattle.formula_reader.specs.Operands.{Inside, arg_behind, args_at, call_behind, call_node, closed, more_args, name_of, primary_at, primary_by, pushed, start_of, word_behind}
-use Rattle.formula_reader.proofs.LeavesSpelled.{operand_says}
-use Rattle.formula_reader.proofs.NumberFronts.{some_or}
-use Rattle.formula_reader.proofs.SpellingsRead.{call_parts, paren_parts}
-use Rattle.formula_reader.proofs.Steps.{Past, Token, bind_some, either, front_and_behind, map_some, past_says, repeat_says, token_says}
+use Rattle.formula_reader.proofs.Sound.Leaves.{operand_says}
+use Rattle.formula_reader.proofs.Steps.{some_or, Past, Token, bind_some, either, front_and_behind, map_some, past_says, repeat_says, token_says}
+use Rattle.formula_reader.proofs.Complete.Levels.{call_parts, paren_parts}
 use Rattle.formula_reader.proofs.TreeCounts.{all_tokens_push, args_tokens, call_counts, most_open, most_open_push, most_parameters, most_parameters_push, open_of, operand_counts, paren_counts, parameters_of, tokens_of}
 
 -- A text of the level is read as the tree, its tokens are taken, fewer parentheses than the depth are open in it, and
