@@ -1,6 +1,6 @@
 -- Worked examples of formulas and fields, each computed.
 use Rattle.calc_model.specs.declared.tree.Tree.TheVariants as t
-use Rattle.std.proofs.Common.{◌≡◌, ◌*◌, ◌^◌, ℕ, pos, false, true, List, [], ◌∷◌, ◌++◌, codes, map, None, Some, replicate, refl}
+use Rattle.std.proofs.Common.{◌≡◌, ◌*◌, ◌^◌, ℕ, pos, false, true, List, [], ◌∷◌, ◌++◌, codes, map, Some, replicate, refl}
 use Rattle.std.specs.List.{flat_map, list_all, list_any}
 use Rattle.std.specs.Option.{is_some}
 use Rattle.std.specs.Str.{chars, is_utf8}

@@ -86,6 +86,10 @@ taken tokens found = option_map (λ (unread : Unread). (found.0, unread)) (past 
 abbrev pub token_taken : ℕ → Option (Tree × List ℕ) → Read
 token_taken tokens found = found >>= taken tokens
 
+-- a token that is read at the front is taken
+abbrev pub token_by : (List ℕ → Option (Tree × List ℕ)) → Unread → Read
+token_by reading unread = token_taken unread.tokens (reading unread.bytes)
+
 -- a text of the code, with what is left behind it
 abbrev pub text_behind : Vec ℕ Global × Bor (List ℕ) → List ℕ × List ℕ
 text_behind read = (read.0.items, read.1.now)

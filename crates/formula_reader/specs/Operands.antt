@@ -17,7 +17,7 @@ use Rattle.formula_reader.specs.declared.operators.Operator.{Operator}
 use Rattle.formula_reader.specs.declared.operators.Operator.TheVariants as operators
 use Rattle.formula_reader.specs.declared.operands.Start.{Start}
 use Rattle.formula_reader.specs.declared.operands.Start.TheVariants.{Operand, Parenthesis, Word}
-use Rattle.formula_reader.specs.Leaves.{operand_at, token_taken}
+use Rattle.formula_reader.specs.Leaves.{operand_at, token_by}
 use Rattle.formula_reader.specs.declared.signs.Sign.{Sign}
 use Rattle.formula_reader.specs.Operators.{operator_taken}
 use Rattle.formula_reader.specs.Signs.{sign_read, sign_taken, signs_read}
@@ -83,7 +83,7 @@ module _ (nested : Inside) where
   abbrev pub primary_by : Start → Unread → Read
   primary_by Parenthesis unread = token_at 40 unread >>= nested.read >>= closed t.Paren
   primary_by Word unread = word_at unread
-  primary_by Operand unread = token_taken unread.tokens (operand_at unread.bytes)
+  primary_by Operand unread = token_by operand_at unread
 
   unfoldable pub primary_at : Unread → Read
   primary_at unread = primary_by (start_of unread.bytes) unread

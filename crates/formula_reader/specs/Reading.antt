@@ -29,9 +29,13 @@ comparison_within more depth tokens bytes = operands_at (inside_at more depth) 6
 abbrev pub formula_within : ℕ → ℕ → ℕ → List ℕ → Option Tree
 formula_within more depth tokens text = behind_front text >>= comparison_within more depth tokens
 
+-- a comparison within the limits of reading
+abbrev pub comparison_in_limits : List ℕ → Option Tree
+comparison_in_limits bytes = comparison_within (MOST_PARAMETERS - 1) MOST_OPEN MOST_TOKENS bytes
+
 abbrev pub formula_by : Bool → List ℕ → Option Tree
 formula_by true text = None
-formula_by false text = formula_within (MOST_PARAMETERS - 1) MOST_OPEN MOST_TOKENS text
+formula_by false text = behind_front text >>= comparison_in_limits
 
 -- the formula that the text spells within the limits of reading, if it spells one
 unfoldable pub formula_of : List ℕ → Option Tree

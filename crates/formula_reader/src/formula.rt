@@ -1,7 +1,6 @@
-ghost use Rattle.calc_model.specs.declared.limits.TheConstants.{MOST_OPEN, MOST_PARAMETERS, MOST_TOKENS};
 ghost use Rattle.formula_reader.specs.Unread.{Makes};
-ghost use Rattle.formula_reader.specs.Reading.{behind_equals, behind_front, comparison_within, formula_of};
-ghost use Rattle.std.specs.Prelude.{IfOk, option_map, ◌-◌, ◌≡◌};
+ghost use Rattle.formula_reader.specs.Reading.{behind_equals, behind_front, comparison_in_limits, formula_of};
+ghost use Rattle.std.specs.Prelude.{IfOk, option_map, ◌≡◌};
 
 use crate::cursor::{Cursor, Stop, skip};
 use crate::operands::{COMPARISON, operands};
@@ -34,7 +33,7 @@ pub(crate) fn read_formula(alloc: Global, text: &[u8]) -> Result<Option<Tree>, N
 
 /// A comparison that is all of these bytes.
 fn read_comparison(alloc: Global, bytes: &[u8]) -> Result<Tree, Stop>
-    ensures { Makes (λ tree. tree) result (comparison_within (MOST_PARAMETERS - 1) MOST_OPEN MOST_TOKENS bytes.now) }
+    ensures { Makes (λ tree. tree) result (comparison_in_limits bytes.now) }
 {
     let mut cursor = Cursor {
         bytes: skip(bytes),

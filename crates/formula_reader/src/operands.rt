@@ -57,7 +57,8 @@ fn attach(
     left: Tree,
     cursor: &mut Cursor<'_>,
 ) -> Result<Tree, Stop>
-    ensures { Gives result cursor.new (attached (operands_at (inside_of depth)) operator left (unread_of cursor.old)) }
+    ensures { Gives result cursor.new
+        (attached (operands_at (inside_of depth)) operator left (unread_of cursor.old)) }
 {
     let left = Boxed::new(alloc, left)?;
     match operator {

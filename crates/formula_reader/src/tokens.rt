@@ -1,8 +1,8 @@
 ghost use Rattle.calc_model.specs.Field.{error_constants};
 ghost use Rattle.calc_model.specs.ValueTexts.{fault_text};
 ghost use Rattle.calc_model.specs.declared.fault.Fault.{Fault};
-ghost use Rattle.formula_reader.specs.Leaves.{behind_quote, error_at, number_at, operand_at, reference_at, string_at, text_behind, token_taken, unquoted};
-ghost use Rattle.formula_reader.specs.Unread.{Gives, Makes};
+ghost use Rattle.formula_reader.specs.Leaves.{behind_quote, error_at, number_at, operand_at, reference_at, string_at, text_behind, token_by, token_taken, unquoted};
+ghost use Rattle.formula_reader.specs.Unread.{Gives, Makes, unread_of};
 ghost use Rattle.std.specs.List.{find, starts_with};
 ghost use Rattle.std.specs.Prelude.{false, length, nat_eq, option_map, ◌≡◌, ◌≤◌};
 
@@ -20,7 +20,7 @@ const QUOTE: u8 = b'"';
 /// Takes an operand of one token: a number, a text in quotes, a reference in brackets, or an error
 /// constant. Linear in the token.
 pub(crate) fn operand(alloc: Global, cursor: &mut Cursor<'_>) -> Result<Tree, Stop>
-    ensures { Gives result cursor.new (token_taken cursor.old.tokens (operand_at cursor.old.bytes.now)) }
+    ensures { Gives result cursor.new (token_by operand_at (unread_of cursor.old)) }
 {
     match cursor.bytes {
         [QUOTE, rest @ ..] => string(alloc, rest, cursor),
@@ -33,7 +33,7 @@ pub(crate) fn operand(alloc: Global, cursor: &mut Cursor<'_>) -> Result<Tree, St
 
 /// A number, which is the error `#OVER!` where it is too large.
 fn number(cursor: &mut Cursor<'_>) -> Result<Tree, Stop>
-    ensures { Gives result cursor.new (token_taken cursor.old.tokens (number_at cursor.old.bytes.now)) }
+    ensures { Gives result cursor.new (token_by number_at (unread_of cursor.old)) }
 {
     let (number, rest) = cursor.bytes.split_at(unsigned_len(cursor.bytes));
     cursor.past(rest)?;
@@ -106,7 +106,7 @@ fn reference<'a>(bytes: &'a [u8], cursor: &mut Cursor<'a>) -> Result<Tree, Stop>
 #[cold]
 #[inline(never)]
 fn error_constant(cursor: &mut Cursor<'_>) -> Result<Tree, Stop>
-    ensures { Gives result cursor.new (token_taken cursor.old.tokens (error_at cursor.old.bytes.now)) }
+    ensures { Gives result cursor.new (token_by error_at (unread_of cursor.old)) }
 {
     match error_in_front(cursor.bytes) {
         Some(fault) => {
@@ -118,8 +118,10 @@ fn error_constant(cursor: &mut Cursor<'_>) -> Result<Tree, Stop>
 }
 
 fn error_in_front(bytes: &[u8]) -> Option<Fault>
-    ensures fault { result ≡ find (λ fault. starts_with nat_eq bytes.now (fault_text fault)) error_constants }
-    ensures within { (fault : Fault) → result ≡ Some fault → length (fault_text fault) ≤ length bytes.now }
+    ensures fault { result
+        ≡ find (λ fault. starts_with nat_eq bytes.now (fault_text fault)) error_constants }
+    ensures within { (fault : Fault) → result ≡ Some fault
+        → length (fault_text fault) ≤ length bytes.now }
 {
     ERROR_CONSTANTS
         .iter()

@@ -1,16 +1,16 @@
 -- Operands by themselves are read whole where something may stand behind an operand: numbers, error constants, texts in
 -- quotes and references.
 use Rattle.calc_model.specs.declared.tree.Tree.TheVariants as t
-use Rattle.std.proofs.Common.{◌≡◌, ◌+◌, ◌-◌, ℕ, Bool, true, false, not, ◌||◌, List, [], ◌∷◌, ◌++◌, length, Some, refl, sym, ap, ◌∙◌, arith, suc, cond, take, drop, Option, None, codes, append_assoc}
+use Rattle.std.proofs.Common.{◌≡◌, ◌+◌, ◌-◌, ℕ, Bool, true, false, not, ◌||◌, List, [], ◌∷◌, ◌++◌, length, Some, refl, sym, ap, ◌∙◌, arith, suc, take, drop, Option, None, codes, append_assoc}
 use Rattle.std.specs.Prelude.{◌==◌, option_map}
-use Rattle.std.specs.List.{list_all, prefix_len, take_while, flat_map, after_first, before_first, list_any, position_or_len}
-use Rattle.std.proofs.lemmas.Bool.{and_parts, cond-false, cond-true, ne_eqb, eqb-true, or_from, or_parts, not_from_false, or_right}
+use Rattle.std.specs.List.{prefix_len, flat_map, after_first, before_first, list_any, position_or_len}
+use Rattle.std.proofs.lemmas.Bool.{and_parts, cond-false, cond-true, ne_eqb, or_from, or_parts, not_from_false, or_right}
 use Rattle.std.proofs.lemmas.Bool.Decides.{nat_tests}
 use Rattle.std.proofs.lemmas.List.{drop_at, take_at, length-append, drop-drop}
 use Rattle.byte_cuts.specs.Fronts.{begins}
 use Rattle.byte_cuts.proofs.Fronts.{begins_less, behind-all}
 use Rattle.calc_model.specs.Tokens.{are_blanks, is_blank, doubled, quoted}
-use Rattle.formula_reader.specs.Unread.{Unread, past, skip, beside, ◌>>=◌}
+use Rattle.formula_reader.specs.Unread.{past, skip, beside, ◌>>=◌}
 use Rattle.std.specs.Char.{is_ascii_digit}
 use Rattle.calc_num.specs.Fronts.{behind_exponent, unsigned_len}
 use Rattle.calc_num.specs.Spelling.{Unsigned, behind_digits, behind_fraction, behind_sign, exponent, fraction_digits, front_digits, is_negative, reading, reading_of, signed_whole, unsigned, whole_number}

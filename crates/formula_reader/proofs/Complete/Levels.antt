@@ -2,7 +2,7 @@
 use Rattle.formula_reader.specs.declared.operators.Operator.TheVariants as o
 use Rattle.calc_model.specs.declared.tree.Tree.TheVariants as t
 use Rattle.formula_reader.specs.declared.signs.Sign.TheVariants as signs
-use Rattle.std.proofs.Common.{◌≡◌, ◌<◌, ◌≤◌, ◌+◌, ℕ, nat_le, Bool, true, false, ◌||◌, List, [], ◌∷◌, ◌++◌, Option, Some, None, refl, ap, ◌∙◌, arith, ◌-◌, zero, suc, length, sym, subst, append_assoc, lit<}
+use Rattle.std.proofs.Common.{◌≡◌, ◌<◌, ◌≤◌, ◌+◌, ℕ, nat_le, Bool, true, false, ◌||◌, List, [], ◌∷◌, ◌++◌, Option, Some, None, refl, ap, ◌∙◌, arith, ◌-◌, zero, suc, length, sym, append_assoc, lit<}
 use Rattle.std.specs.Prelude.{◌==◌, option_map}
 use Rattle.std.proofs.lemmas.Bool.{cond-false, cond-true, le-leb, lt-leb, or_parts, lt-ltb}
 use Rattle.calc_model.specs.Grammar.{op_level, op_text, AreArgs, AreSomeArgs, IsPrimary, IsLevel, call, in_capitals, looser, minus, more, none, one, operand, operated, parenthesis, percent, plus, primary, some}
@@ -20,8 +20,8 @@ use Rattle.byte_cuts.proofs.Fronts.{begins-append}
 use Rattle.calc_model.specs.declared.tree.Tree.{Tree}
 use Rattle.formula_reader.specs.declared.signs.Sign.{Sign}
 use Rattle.formula_reader.specs.Signs.{sign_at, sign_by, sign_found, sign_read, sign_taken, signed_by}
-use Rattle.formula_reader.specs.Unread.{◌>>=◌, Read, Unread, next_is, past, repeat}
-use Rattle.formula_reader.specs.Operands.{Inside, arg_behind, args_at, attached, comparison_at, infix_read, inside_at, more_args, more_made, operands_at, operator_behind, operators_behind, prefixed_at, primary_at, pushed}
+use Rattle.formula_reader.specs.Unread.{◌>>=◌, Read, Unread, repeat}
+use Rattle.formula_reader.specs.Operands.{Inside, arg_behind, args_at, comparison_at, infix_read, inside_at, more_args, more_made, operands_at, operator_behind, operators_behind, prefixed_at, primary_at, pushed}
 use Rattle.formula_reader.proofs.Complete.Beginnings.{behind_blanks, is_level_start, level_begins, level_no_blanks, primary_begins, primary_no_sign, some_begins}
 use Rattle.formula_reader.proofs.Turns.{operands_is, no_sign, one_sign, arg_stops, arg_token, args_first, operator_found, operator_stops}
 use Rattle.formula_reader.proofs.Complete.Primaries.{call_read, operand_read, paren_read}

@@ -15,9 +15,9 @@ use Rattle.calc_model.specs.declared.fault.Fault.{Fault}
 use Rattle.calc_model.specs.declared.fault.Fault.TheVariants.{NA, DivZero, BadValue, BadRef, BadName, BadNum, Null, Over, Syntax, Circular}
 use Rattle.calc_model.specs.declared.tree.Tree.{Tree}
 use Rattle.formula_reader.specs.declared.operands.Start.TheVariants.{Operand, Word}
-use Rattle.formula_reader.specs.Leaves.{error_at, number_at, number_tree, operand_at, taken, token_taken}
+use Rattle.formula_reader.specs.Leaves.{error_at, number_at, number_tree, operand_at, token_taken}
 use Rattle.formula_reader.specs.Unread.{◌>>=◌, Unread, beside, next_is, past}
-use Rattle.formula_reader.specs.Operands.{Inside, args_at, call_behind, call_node, closed, name_of, primary_at, primary_by, start_of, word_behind}
+use Rattle.formula_reader.specs.Operands.{Inside, args_at, call_node, closed, primary_at, primary_by, start_of, word_behind}
 use Rattle.formula_reader.proofs.Complete.Beginnings.{behind_blanks, identifier_begins, identifier_bytes, is_number_start, number_begins}
 use Rattle.formula_reader.proofs.Complete.Leaves.{error_in_front, Follows, Stops, Stops-append, is_no_stop, past-blanks, past-token, number_in_front, quoted_parts, string_in_front, bracketed_parts, reference_in_front}
 use Rattle.byte_cuts.specs.Fronts.{begins}

@@ -10,7 +10,7 @@ use Rattle.calc_model.specs.Grammar.{IsFront, Spells, doubled, long, long_double
 use Rattle.calc_model.specs.Limits.{InLimits, is_in_limits}
 use Rattle.calc_model.specs.Tokens.{is_blank}
 use Rattle.calc_model.specs.declared.tree.Tree.{Tree}
-use Rattle.formula_reader.specs.Unread.{◌>>=◌, Unread, next_is, skip}
+use Rattle.formula_reader.specs.Unread.{Unread, next_is, skip}
 use Rattle.formula_reader.specs.Reading.{behind_equals, behind_front, comparison_within, formula_by, formula_of, formula_within, whole, without}
 use Rattle.formula_reader.specs.Operands.{inside_at, operands_at}
 use Rattle.formula_reader.proofs.Complete.Formulas.{one_tree}

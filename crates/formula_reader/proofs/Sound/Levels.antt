@@ -2,17 +2,17 @@
 use Rattle.formula_reader.specs.declared.operators.Operator.TheVariants as o
 use Rattle.calc_model.specs.declared.tree.Tree.TheVariants as t
 use Rattle.formula_reader.specs.declared.signs.Sign.TheVariants as signs
-use Rattle.std.proofs.Common.{◌≡◌, ◌≤◌, ◌<◌, ℕ, nat_le, cond, Bool, true, false, List, [], ◌∷◌, ◌++◌, Option, Some, None, refl, sym, ap, ◌∙◌, subst, arith, ◌+◌, ◌-◌, ◌⊎◌, inl, inr, zero, suc, append_assoc, lit<}
-use Rattle.std.specs.Prelude.{◌==◌, option_map}
+use Rattle.std.proofs.Common.{◌≡◌, ◌≤◌, ◌<◌, ℕ, nat_le, cond, Bool, true, false, List, [], ◌∷◌, ◌++◌, Option, Some, None, refl, sym, ap, ◌∙◌, subst, arith, ◌-◌, inl, inr, zero, suc, append_assoc, lit<}
+use Rattle.std.specs.Prelude.{◌==◌}
 use Rattle.std.proofs.lemmas.Bool.{cond-false, cond-true, eqb-true, leb-false, leb-true, ltb-true}
 use Rattle.std.proofs.lemmas.Option.{same_Some, some_pair_parts}
-use Rattle.calc_model.proofs.GrammarLevels.{level_some, level_most, loosened}
+use Rattle.calc_model.proofs.GrammarLevels.{level_some, loosened}
 use Rattle.calc_model.specs.Grammar.{op_text, IsLevel, minus, op_level, operated, percent, plus}
 use Rattle.calc_model.specs.declared.tree.Op.TheVariants.{Pow, Mul, Div, Add, Sub, Cat, Eq}
 use Rattle.formula_reader.specs.declared.operators.Operator.{Operator}
-use Rattle.formula_reader.specs.Unread.{Unread, beside, past, ◌>>=◌, Read}
+use Rattle.formula_reader.specs.Unread.{Unread, beside, past, Read}
 use Rattle.formula_reader.specs.Operators.{beside_some, greater_at, less_at, level_of, operator_at, operator_taken, single_operator, taken_by, up_to}
-use Rattle.formula_reader.proofs.Steps.{some_or, Past, either, map_some, past_says, Ended, bind_some, repeat_says}
+use Rattle.formula_reader.proofs.Steps.{Past, either, map_some, past_says, bind_some, repeat_says}
 use Rattle.formula_reader.proofs.Complete.Levels.{level_behind, level_found}
 use Rattle.calc_model.specs.Tokens.{are_blanks}
 use Rattle.calc_model.specs.declared.tree.Op.{Op}
@@ -22,7 +22,7 @@ use Rattle.formula_reader.specs.Signs.{sign_at, sign_by, sign_found, sign_read, 
 use Rattle.formula_reader.specs.Operands.{Inside, attached, attached_by, behind_sign, comparison_at, infix_read, inside_at, more_made, operands_at, operator_behind, operators_behind, prefixed_at, prefixed_within, primary_at}
 use Rattle.formula_reader.proofs.Turns.{operands_is}
 use Rattle.formula_reader.proofs.Sound.Primaries.{Sound, Spelled, operator_joined, primary_sound}
-use Rattle.formula_reader.proofs.TreeCounts.{OneMore, binary_counts, minus_counts, open_of, parameters_of, percent_counts, plus_counts, tokens_of}
+use Rattle.formula_reader.proofs.TreeCounts.{OneMore, binary_counts, minus_counts, percent_counts, plus_counts}
 
 abbrev pub operator_text : Operator → List ℕ
 operator_text o.Percent = 37 ∷ []

@@ -1,6 +1,6 @@
 -- What is read as a primary is spelled so, within the limits.
 use Rattle.calc_model.specs.declared.tree.Tree.TheVariants as t
-use Rattle.std.proofs.Common.{◌≡◌, ◌≤◌, ◌<◌, ◌+◌, ◌-◌, ℕ, suc, Bool, true, false, cond, ◌&&◌, List, [], ◌∷◌, ◌++◌, length, Option, Some, None, refl, sym, ap, ◌∙◌, subst, append_assoc, arith}
+use Rattle.std.proofs.Common.{◌≡◌, ◌≤◌, ◌<◌, ◌+◌, ℕ, suc, true, ◌&&◌, List, [], ◌∷◌, ◌++◌, length, Some, None, refl, sym, ap, ◌∙◌, subst, append_assoc, arith}
 use Rattle.std.specs.Prelude.{option_map}
 use Rattle.std.specs.List.{take_while}
 use Rattle.std.proofs.lemmas.Bool.{and_parts}
@@ -16,7 +16,7 @@ use Rattle.formula_reader.specs.Leaves.{operand_at, taken, token_taken}
 use Rattle.formula_reader.specs.Unread.{◌>>=◌, Read, Unread, beside, next_is, past, token_at}
 use Rattle.formula_reader.specs.Operands.{Inside, arg_behind, args_at, call_behind, call_node, closed, more_args, name_of, primary_at, primary_by, pushed, start_of, word_behind}
 use Rattle.formula_reader.proofs.Sound.Leaves.{operand_says}
-use Rattle.formula_reader.proofs.Steps.{some_or, Past, Token, bind_some, either, front_and_behind, map_some, past_says, repeat_says, token_says}
+use Rattle.formula_reader.proofs.Steps.{some_or, Past, bind_some, either, front_and_behind, map_some, past_says, repeat_says, token_says}
 use Rattle.formula_reader.proofs.Complete.Levels.{call_parts, paren_parts}
 use Rattle.formula_reader.proofs.TreeCounts.{all_tokens_push, args_tokens, call_counts, most_open, most_open_push, most_parameters, most_parameters_push, open_of, operand_counts, paren_counts, parameters_of, tokens_of}
 

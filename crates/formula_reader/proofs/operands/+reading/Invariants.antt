@@ -2,9 +2,8 @@
 use Rattle.formula_reader.proofs.operands.+reading.Given as goal
 use Rattle.std.proofs.Common.{◌≡◌, ◌+◌, ◌*◌, ◌-◌}
 use Rattle.formula_reader.specs.Operators.{level_of}
-use Rattle.formula_reader.specs.Signs.{signed, signs_read}
-use Rattle.formula_reader.specs.Unread.{◌>>=◌, repeat, unread_of}
-use Rattle.formula_reader.specs.Operands.{arg_behind, args_at, comparison_of, inside_of, operands_at, operator_behind, prefixed_at}
+use Rattle.formula_reader.specs.Unread.{repeat, unread_of}
+use Rattle.formula_reader.specs.Operands.{arg_behind, args_at, comparison_of, inside_of, operands_at, operator_behind}
 
 abbrev pub decreases-comparison : goal.decreases-comparison
 decreases-comparison l = 1024 * l.depth

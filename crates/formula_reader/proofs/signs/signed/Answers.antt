@@ -1,5 +1,5 @@
 use Rattle.formula_reader.proofs.signs.signed.Goals as goal
-use Rattle.std.proofs.Common.{◌≡◌, [], ◌∷◌, ◌++◌, Vec, Global, ap, sym, ◌∙◌}
+use Rattle.std.proofs.Common.{◌≡◌, [], ◌∷◌, ◌++◌, ap, sym, ◌∙◌}
 use Rattle.std.specs.Option.{option_to_list}
 use Rattle.formula_reader.specs.Signs.{signed}
 use Rattle.formula_reader.proofs.Turns.{signed_push}
