@@ -99,7 +99,8 @@ static void wide_text(char *bytes) {
         sprintf(bytes, "%lu.%09ue-%u", front, behind, exponent);
 }
 
-static void fill(struct data *data, const char *kind, void (*fill_row)(struct data *, int), void (*text)(char *)) {
+static void fill(struct data *data, const char *kind, void (*fill_row)(struct data *, int),
+                 void (*text)(char *)) {
     data->kind = kind;
     for (int row = 0; row < COUNT; row++) {
         fill_row(data, row);
@@ -139,7 +140,8 @@ static void print_number(i128 number) {
     printf(" %s%s", number < 0 ? "-" : "", at);
 }
 
-static void print_line(const char *name, const char *kind, unsigned rounds, uint64_t least, u128 sum, u128 mixed) {
+static void print_line(const char *name, const char *kind, unsigned rounds, uint64_t least, u128 sum,
+                       u128 mixed) {
     printf("%s %s %u %lu", name, kind, rounds, least);
     print_number((i128)sum);
     print_number((i128)mixed);
@@ -149,11 +151,11 @@ static void print_line(const char *name, const char *kind, unsigned rounds, uint
 /* A call with the numbers of one row, or with those of two. */
 typedef i128 call(const struct data *data, unsigned at, unsigned other);
 
-#define CALL(name, columns, outcome)                                                     \
+#define CALL(name, columns, outcome)                                                       \
     static inline i128 call_##name(const struct data *data, unsigned at, unsigned other) { \
-        i128 left = data->columns.left[at], right = data->columns.right[other];          \
-        (void)right;                                                                     \
-        return value_of(outcome);                                                        \
+        i128 left = data->columns.left[at], right = data->columns.right[other];            \
+        (void)right;                                                                       \
+        return value_of(outcome);                                                          \
     }
 
 CALL(add, pairs, add(left, right))
@@ -194,8 +196,8 @@ static inline i128 all_bytes(const struct data *data, unsigned at, unsigned othe
 }
 
 /* The least time of TIMES. A round takes other rows together than the one before it. */
-static inline __attribute__((always_inline)) void
-time_call(const char *name, const struct data *data, unsigned rounds, call *timed, call *checked) {
+static inline __attribute__((always_inline)) void time_call(const char *name, const struct data *data,
+                                                            unsigned rounds, call *timed, call *checked) {
     uint64_t least = UINT64_MAX;
     u128 sum = 0, mixed = 0;
     for (int time = 0; time < TIMES; time++) {

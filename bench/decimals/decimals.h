@@ -314,14 +314,16 @@ static inline struct outcome read(const char *text, size_t length) {
     }
     if (whole.count < 19 && fraction.count < 19 && -28 <= behind && behind <= 28) {
         u128 number = (u128)whole.number * powers[fraction.count] + fraction.number;
-        return behind < 0 ? shortened(negative, number, (unsigned)-behind) : lengthened(negative, number, (unsigned)behind);
+        return behind < 0 ? shortened(negative, number, (unsigned)-behind)
+                          : lengthened(negative, number, (unsigned)behind);
     }
     return read_long(negative, start, fraction.end, 9 + exponent);
 }
 
-static const char pairs[201] = "00010203040506070809101112131415161718192021222324252627282930313233343536373839"
-                               "40414243444546474849505152535455565758596061626364656667686970717273747576777879"
-                               "8081828384858687888990919293949596979899";
+static const char pairs[201] =
+    "00010203040506070809101112131415161718192021222324252627282930313233343536373839"
+    "40414243444546474849505152535455565758596061626364656667686970717273747576777879"
+    "8081828384858687888990919293949596979899";
 
 static inline void put_pair(char *at, uint64_t pair) {
     at[0] = pairs[2 * pair];

@@ -1,10 +1,10 @@
 -- What stands between the brackets of a formula's reference: the sheet where one is written, `.`, and
 -- a cell, or two cells, columns or rows with `:.` between them, as in `.A1`, `$Sheet2.$A$1:.B2`,
 -- `.A:.C` and `.1:.3`. A dollar sign before a coordinate marks it.
-use Rattle.std.specs.Prelude.{ℕ, Bool, false, ◌-◌, ◌&&◌, ◌==◌, nat_le, if◌then◌else◌, List, [], ◌∷◌, ◌++◌, length, take, drop, slice_index, codes, decimal, Option, Some, None, option_map, option_and_then}
+use Rattle.std.specs.Prelude.{◌≡◌, ◌≤◌, ℕ, Bool, false, ◌-◌, ◌&&◌, ◌==◌, nat_le, if◌then◌else◌, List, [], ◌∷◌, ◌++◌, length, take, drop, slice_index, codes, decimal, Option, Some, None, option_map, option_and_then}
 use Rattle.std.specs.List.{list_any, before_first, after_first}
 use Rattle.std.specs.Option.{option_or}
-use Rattle.calc_addr.specs.declared.cell.TheConstants.{LAST_COL, LAST_ROW}
+use Rattle.calc_addr.specs.declared.cell.TheConstants.{LAST_SHEET, LAST_COL, LAST_ROW}
 use Rattle.calc_addr.specs.Addresses.{sheet_word}
 use Rattle.calc_addr.specs.Ends.{in_order, whole, reference_of, cols_of, rows_of}
 use Rattle.calc_addr.specs.Letters.{column_letters}
@@ -58,6 +58,10 @@ abbrev pub written_sheet : List ℕ → Option (Option ℕ)
 written_sheet text =
     if length text == 0 then Some None
     else option_map (λ sheet. Some sheet) (inside (sheet_of (bare_name (undollared text))))
+
+-- the sheet of a reference, where one is written
+abbrev pub IsSheet : Option ℕ → Type 0
+IsSheet sheet = (n : ℕ) → sheet ≡ Some n → n ≤ LAST_SHEET
 
 -- what follows a point in front
 abbrev pub after_point : List ℕ → Option (List ℕ)

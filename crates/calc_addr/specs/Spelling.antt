@@ -5,7 +5,7 @@ use Rattle.std.specs.Prelude.{ℕ, Bool, false, not, ◌-◌, ◌&&◌, ◌==◌
 use Rattle.std.specs.List.{list_all, list_any, prefix_len, before_first, after_first, starts_with}
 use Rattle.std.specs.Char.{is_ascii_alphabetic, is_ascii_digit, to_ascii_lowercase}
 use Rattle.std.specs.Str.Parse.{digits_value}
-use Rattle.calc_addr.specs.declared.cell.TheConstants.{LAST_COL, LAST_ROW}
+use Rattle.calc_addr.specs.declared.cell.TheConstants.{LAST_SHEET, LAST_COL, LAST_ROW}
 use Rattle.calc_addr.specs.Places.{Place, Rectangle}
 use Rattle.calc_addr.specs.Letters.{column_number}
 use Rattle.calc_addr.specs.declared.read.Spelled.{Spelled}
@@ -96,7 +96,7 @@ from_zero Outside = Outside
 from_zero Not = Not
 
 abbrev pub sheet_number : List ℕ → Spelled ℕ
-sheet_number digits = if are_digits_or_zero digits then from_zero (up_to 16 (digits_value 10 digits)) else Not
+sheet_number digits = if are_digits_or_zero digits then from_zero (up_to (LAST_SHEET + 1) (digits_value 10 digits)) else Not
 
 -- the letters `sheet` in either case, then a number
 abbrev pub sheet_of : List ℕ → Spelled ℕ

@@ -1,4 +1,4 @@
-ghost use Rattle.calc_addr.specs.Bracketed.{after_point, column_end, corner_ends, is_marked, one_cell, row_end, spelled_reference, spelled_span, two_cells, two_columns, two_ends, two_rows, bare_name, written_sheet};
+ghost use Rattle.calc_addr.specs.Bracketed.{IsSheet, after_point, column_end, corner_ends, is_marked, one_cell, row_end, spelled_reference, spelled_span, two_cells, two_columns, two_ends, two_rows, bare_name, written_sheet};
 ghost use Rattle.calc_addr.specs.Ends.{AreEnds, reference_of};
 ghost use Rattle.calc_addr.specs.References.{IsSpanned};
 ghost use Rattle.std.specs.Prelude.{IfSome, option_map, ℕ, ◌≡◌, ◌≤◌};
@@ -13,7 +13,7 @@ use byte_cuts::split_once;
 /// The sheet that stands before the point, if one is written.
 fn read_written_sheet(text: &[u8]) -> Option<Option<u8>>
     ensures sheet { result ≡ written_sheet text.now }
-    ensures inside { (n : ℕ) → result ≡ Some (Some n) → n ≤ LAST_SHEET }
+    ensures inside { IfSome result IsSheet }
 {
     if text.is_empty() {
         return Some(None);
@@ -85,7 +85,7 @@ fn read_corner(text: &[u8]) -> Option<(End, End)>
 }
 
 fn reference(sheet: Option<u8>, span: Span, cols: Ends, rows: Ends) -> Ref
-    requires sheet { (n : ℕ) → sheet ≡ Some n → n ≤ LAST_SHEET }
+    requires sheet { IsSheet sheet }
     requires cols { AreEnds LAST_COL cols }
     requires rows { AreEnds LAST_ROW rows }
     requires span { IsSpanned span (reference_of sheet span cols rows).area (reference_of sheet span cols rows).marks }
@@ -111,7 +111,7 @@ fn reference(sheet: Option<u8>, span: Span, cols: Ends, rows: Ends) -> Ref
 }
 
 fn one_cell(sheet: Option<u8>, text: &[u8]) -> Option<Ref>
-    requires { (n : ℕ) → sheet ≡ Some n → n ≤ LAST_SHEET }
+    requires { IsSheet sheet }
     ensures { result ≡ one_cell sheet text.now }
 {
     let (col, row) = read_corner(text)?;
@@ -119,7 +119,7 @@ fn one_cell(sheet: Option<u8>, text: &[u8]) -> Option<Ref>
 }
 
 fn two_cells(sheet: Option<u8>, first: &[u8], last: &[u8]) -> Option<Ref>
-    requires { (n : ℕ) → sheet ≡ Some n → n ≤ LAST_SHEET }
+    requires { IsSheet sheet }
     ensures { result ≡ two_cells sheet first.now last.now }
 {
     let (first_col, first_row) = read_corner(first)?;
@@ -130,7 +130,7 @@ fn two_cells(sheet: Option<u8>, first: &[u8], last: &[u8]) -> Option<Ref>
 }
 
 fn two_columns(sheet: Option<u8>, first: &[u8], last: &[u8]) -> Option<Ref>
-    requires { (n : ℕ) → sheet ≡ Some n → n ≤ LAST_SHEET }
+    requires { IsSheet sheet }
     ensures { result ≡ two_columns sheet first.now last.now }
 {
     let cols = in_order(read_column_end(first)?, read_column_end(last)?);
@@ -138,7 +138,7 @@ fn two_columns(sheet: Option<u8>, first: &[u8], last: &[u8]) -> Option<Ref>
 }
 
 fn two_rows(sheet: Option<u8>, first: &[u8], last: &[u8]) -> Option<Ref>
-    requires { (n : ℕ) → sheet ≡ Some n → n ≤ LAST_SHEET }
+    requires { IsSheet sheet }
     ensures { result ≡ two_rows sheet first.now last.now }
 {
     let rows = in_order(read_row_end(first)?, read_row_end(last)?);
@@ -146,7 +146,7 @@ fn two_rows(sheet: Option<u8>, first: &[u8], last: &[u8]) -> Option<Ref>
 }
 
 fn two_ends(sheet: Option<u8>, first: &[u8], last: &[u8]) -> Option<Ref>
-    requires { (n : ℕ) → sheet ≡ Some n → n ≤ LAST_SHEET }
+    requires { IsSheet sheet }
     ensures { result ≡ two_ends sheet first.now last.now }
 {
     two_cells(sheet, first, last)
@@ -155,7 +155,7 @@ fn two_ends(sheet: Option<u8>, first: &[u8], last: &[u8]) -> Option<Ref>
 }
 
 fn read_span(sheet: Option<u8>, text: &[u8]) -> Option<Ref>
-    requires { (n : ℕ) → sheet ≡ Some n → n ≤ LAST_SHEET }
+    requires { IsSheet sheet }
     ensures { result ≡ spelled_span sheet text.now }
 {
     match split_once(text, b':') {

@@ -5,8 +5,13 @@ ghost use Rattle.std.specs.List.{prefix_len, starts_with};
 ghost use Rattle.std.specs.Prelude.{codes, length, if◌then◌else◌, map, min, nat_eq, ◌-◌, ◌^◌, ◌≡◌, ◌≤◌};
 ghost use Rattle.std.specs.Str.Parse.{digits_value};
 
-use crate::cell::LAST_ROW;
+use crate::cell::{LAST_COL, LAST_ROW, LAST_SHEET};
 use crate::read::Spelled;
+
+/// How many columns a sheet has.
+const COLS: u32 = LAST_COL as u32;
+/// How many sheets there are.
+const SHEETS: u32 = LAST_SHEET as u32 + 1;
 
 /// The text without a dollar sign in front.
 pub(crate) fn undollared(text: &[u8]) -> &[u8]
@@ -61,7 +66,7 @@ pub(crate) fn read_column(letters: &[u8]) -> Spelled<u16>
 {
     match column_number(letters) {
         None => Spelled::Not,
-        Some(number @ 1..=1_024) => Spelled::Is(number as u16),
+        Some(number @ 1..=COLS) => Spelled::Is(number as u16),
         Some(_) => Spelled::Outside,
     }
 }
@@ -97,7 +102,7 @@ fn sheet_number(digits: &[u8]) -> Spelled<u8>
 {
     match number_or_zero(digits) {
         None => Spelled::Not,
-        Some(number @ 1..=16) => Spelled::Is(number as u8 - 1),
+        Some(number @ 1..=SHEETS) => Spelled::Is(number as u8 - 1),
         Some(_) => Spelled::Outside,
     }
 }

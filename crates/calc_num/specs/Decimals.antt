@@ -3,6 +3,7 @@
 use Rattle.std.specs.Prelude.{◌≡◌, ℕ, ℤ, pos, negsuc, neg_ℤ, ◌-ℤ◌, ◌*ℤ◌, zero, suc, ◌+◌, ◌-◌, ◌*◌, ◌/◌, ◌%◌, ◌^◌, ◌<◌, ◌≤◌, ◌==◌, ◌&&◌, Bool, true, Result, Ok, Err, nat_lt, nat_le, int_lt, int_le, int_div, if◌then◌else◌}
 use Rattle.std.specs.Int.RustNames.{unsigned_abs}
 use Rattle.calc_num.specs.declared.num.NumFault.{NumFault}
+use Rattle.calc_num.specs.declared.power.TheConstants.{MOST_FACTORS}
 use Rattle.calc_num.specs.declared.num.NumFault.TheVariants.{Over, DivZero, NotNum}
 use Rattle.calc_num.specs.declared.rounding.Way.{Way}
 use Rattle.calc_num.specs.declared.rounding.Way.TheVariants.{Nearest, Away, Toward, Floor}
@@ -60,7 +61,7 @@ repeated_product n (suc count) = repeated_product n count >>= (λ before. mul be
 abbrev pub exponent_size : ℤ → Result ℕ NumFault
 exponent_size exponent =
     let size = unsigned_abs exponent in
-    if size % 10 ^ 9 == 0 && nat_le (size / 10 ^ 9) 1024 then Ok (size / 10 ^ 9) else Err NotNum
+    if size % 10 ^ 9 == 0 && nat_le (size / 10 ^ 9) MOST_FACTORS then Ok (size / 10 ^ 9) else Err NotNum
 
 -- n to the power of an exponent, which for a negative one is 1 divided by the product
 abbrev pub pow : ℤ → ℤ → Result ℤ NumFault

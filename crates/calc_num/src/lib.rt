@@ -1,4 +1,4 @@
-//! Decimal numbers of nine places, held as whole numbers of 128 bits.
+//! Decimal numbers of nine places, held as whole numbers of 128 bits: the numbers of OpenFormula (4.3).
 //!
 //! A number is kept as its raw number n, which stands for n / 10^9. The size of n is below 10^27, so
 //! a number has up to 18 digits before the point and nine behind it. No result rests on floating

@@ -17,6 +17,7 @@ const TICKS: u64 = ONE / TICK;
 const SHORT: u64 = 900_000 * ONE;
 
 /// The size of a product of two small sizes.
+#[tactic(auto, using(crate::proofs::Arithmetic::Products::product_parted))]
 fn small_product(a: u64, b: u64) -> u128
     requires first { a ≤ 2 ^ 63 }
     requires second { b ≤ 2 ^ 63 }
@@ -28,6 +29,7 @@ fn small_product(a: u64, b: u64) -> u128
 }
 
 /// The size of a product, or the limit where it is as large as that.
+#[tactic(auto, using(crate::proofs::Arithmetic::Products::product_large, crate::proofs::Arithmetic::Products::product_in_four))]
 fn rounded_product(a: u128, b: u128) -> u128
     requires first { a < 10 ^ 27 }
     requires second { b < 10 ^ 27 }

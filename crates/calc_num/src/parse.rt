@@ -144,6 +144,9 @@ fn lengthened(number: u128, zeros: usize) -> u128
     requires { zeros ≤ 28 }
     ensures { result ≡ min (number * 10 ^ zeros) (10 ^ 27) }
 {
+    if number < MANY as u128 && zeros <= 18 {
+        return with_zeros(number as u64, zeros).min(LIMIT);
+    }
     let size = number.checked_mul(power_of_ten(zeros));
     size.map_or(LIMIT, |size| size.min(LIMIT))
 }
@@ -263,37 +266,6 @@ fn long_size(whole: &[u8], fraction: &[u8], exponent: i128) -> u128
     }
 }
 
-/// How many places stand between the shifted point and the cut. None where these are far apart.
-fn places_behind_point(exponent: i128) -> Option<usize>
-    requires low { neg_ℤ (pos (10 ^ 20)) ≤ℤ exponent }
-    requires high { exponent ≤ℤ pos (10 ^ 20) }
-    ensures { IfSome result (λ places. (pos places ≡ pos 9 +ℤ exponent) × (places ≤ 18)) }
-{
-    let places = 9 + exponent;
-    if places < 0 || places > 18 {
-        None
-    } else {
-        Some(places as usize)
-    }
-}
-
-/// The size in billionths of digits round a point with an exponent, or the limit, by one product on
-/// each side of the point. None where a side has many digits, or one of them stands behind the cut.
-fn short_size(whole: Digits, fraction: Digits, exponent: i128) -> Option<u128>
-    requires low { neg_ℤ (pos (10 ^ 20)) ≤ℤ exponent }
-    requires high { exponent ≤ℤ pos (10 ^ 20) }
-    ensures { IfSome result (λ size. size
-        ≡ size_of record { whole = whole.entry.bytes.now; fraction = fraction.entry.bytes.now; exponent = exponent }) }
-{
-    if whole.number >= MANY || fraction.number >= MANY {
-        return None;
-    }
-    let before = places_behind_point(exponent)?;
-    let behind = before.checked_sub(fraction.bytes.len())?;
-    let size = with_zeros(whole.number, before) + with_zeros(fraction.number, behind);
-    Some(size.min(LIMIT))
-}
-
 /// How many zeros stand behind all digits in front of the cut, or behind it where there are fewer than
 /// none. None where these are many.
 fn zeros_behind(count: usize, exponent: i128) -> Option<i128>
@@ -345,9 +317,6 @@ fn scaled(whole: Digits, fraction: Digits, exponent: i128) -> u128
     ensures { result
         ≡ size_of record { whole = whole.entry.bytes.now; fraction = fraction.entry.bytes.now; exponent = exponent } }
 {
-    if let Some(size) = short_size(whole, fraction, exponent) {
-        return size;
-    }
     match joined_size(whole, fraction, exponent) {
         Some(size) => size,
         None => long_size(whole.bytes, fraction.bytes, exponent),

@@ -6,7 +6,7 @@ use crate::num::{Num, NumFault, ONE};
 use crate::split::split;
 
 /// The greatest size of an exponent.
-const MOST: u64 = 1024;
+const MOST_FACTORS: u64 = 1_024;
 
 /// One, multiplied by the base so many times. It stops where a further step changes nothing.
 fn repeated(base: Num, count: u32) -> Result<Num, NumFault>
@@ -32,7 +32,7 @@ impl Num {
         ensures { result ≡ pow self exponent }
     {
         let (count, rest) = split(exponent.size());
-        if rest != 0 || count > MOST {
+        if rest != 0 || count > MOST_FACTORS {
             return Err(NumFault::NotNum);
         }
         let product = repeated(self, count as u32)?;

@@ -52,7 +52,7 @@ fn near_root(square: u128) -> u64
 }
 
 /// The least root that isn't below a square's, from any number, in as many steps as that is off.
-#[tactic(auto, using(crate::proofs::Arithmetic::Roots::below_root))]
+#[tactic(auto, using(crate::proofs::Arithmetic::Roots::below_root, crate::proofs::Arithmetic::Roots::root_from))]
 fn least_root(square: u128, near: u64) -> u64
     requires square { square < 10 ^ 36 }
     requires near { near ≤ 2 ^ 60 }
@@ -76,6 +76,7 @@ fn least_root(square: u128, near: u64) -> u64
 impl Num {
     /// The square root to nine places, which is never halfway between two. A negative number has none
     /// and is `NotNum`; there is no other fault.
+    #[tactic(auto, using(crate::proofs::Arithmetic::Roots::sqrt_is_root, crate::proofs::Arithmetic::Roots::root_is_least))]
     pub fn sqrt(self) -> Result<Num, NumFault>
         ensures value { result ≡ sqrt self }
         ensures least { IfOk result (IsLeastRoot self) }

@@ -28,6 +28,7 @@ static POWERS: [u64; LAST + 1] = [
 ];
 
 /// A number of less than 19 digits with so many zeros behind it.
+#[tactic(auto, using(crate::proofs::ReadNumbers::Scale::powers_of_ten))]
 pub(crate) fn with_zeros(number: u64, zeros: usize) -> u128
     requires number { number ≤ 10 ^ 18 }
     requires zeros { zeros ≤ 18 }

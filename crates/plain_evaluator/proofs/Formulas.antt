@@ -1,5 +1,5 @@
 -- The formulas of a book with what they read: in the order of cells, and in any order.
-use Rattle.std.proofs.Common.{◌≡◌, ℕ, ◌≤◌, drop, length, Bool, true, false, ◌||◌, cond, List, [], ◌∷◌, ◌++◌, append_assoc, map, Some, refl, sym, ap, subst, ◌∙◌}
+use Rattle.std.proofs.Common.{◌≡◌, ℕ, suc, ◌+◌, ◌<◌, ◌≤◌, ◌&&◌, get_or, drop, drop-cons, add-one, length, Bool, true, false, ◌||◌, cond, List, [], ◌∷◌, ◌++◌, append_assoc, map, Some, refl, sym, ap, subst, ◌∙◌}
 use Rattle.std.specs.List.{All, AllByRecursion, filter, list_all, list_any}
 use Rattle.std.specs.Ordering.{eq_by_cmp}
 use Rattle.std.specs.FinMap.Entries.{find}
@@ -26,6 +26,11 @@ Reading = Place × List Rectangle
 -- behind the end of a list nothing fails
 pub all_dropped : {X : Type 0} (test : X → Bool) (xs : List X) (k : ℕ) → length xs ≤ k → list_all test (drop k xs) ≡ true
 all_dropped test xs k within = ap (list_all test) (drop_all k xs within)
+
+-- an item that passes, before items that all pass
+pub next_passes : {X : Type 0} (test : X → Bool) (xs : List X) (k : ℕ) (x : X) → k < length xs → x ≡ get_or xs k x → test x ≡ true → list_all test (drop (k + 1) xs) ≡ true → list_all test (drop k xs) ≡ true
+next_passes test xs k x within at passes rest =
+    ap (list_all test) (drop-cons xs k x within) ∙ ap (λ y. test y && list_all test (drop (suc k) xs)) (sym at) ∙ ap (λ b. b && list_all test (drop (suc k) xs)) passes ∙ ap (λ n. list_all test (drop n xs)) (sym (add-one k)) ∙ rest
 
 module _ (book : Book) where
   abbrev pub reading : Place × Content → Reading

@@ -10,14 +10,11 @@ use Rattle.std.proofs.lemmas.Map.Entries.{lookup-filter-keys}
 use Rattle.calc_addr.specs.Places.{Place, Rectangle, covers, place_cmp}
 use Rattle.calc_model.specs.declared.content.Content.{Content}
 use Rattle.calc_model.specs.declared.content.Content.TheVariants.{Empty}
-use Rattle.calc_model.specs.declared.edit.Edit.TheVariants.{Clear, Set}
-use Rattle.calc_model.specs.Books.{content_at, is_held, with_content}
-use Rattle.calc_model.specs.Stale.{touched}
+use Rattle.calc_model.specs.Books.{Book, content_at, is_held, with_content}
 use Rattle.calc_model.specs.Step.{without_area}
 use Rattle.calc_model.proofs.Places.{same_places}
 use Rattle.calc_model.proofs.Reached.{same_cell}
-use Rattle.plain_evaluator.specs.Plain.{book_of}
-use Rattle.plain_evaluator.proofs.Lookups.{find-lookup}
+use Rattle.cell_map.proofs.Lookups.{find-lookup}
 
 -- cells that differ differ in either order
 apart_from : (cell q : Place) → eq_by_cmp place_cmp cell q ≡ false → (other : Place) → cell ≡ other → eq_by_cmp place_cmp q other ≡ false
@@ -46,19 +43,21 @@ find-remove_entry (e ∷ es) cell q apart =
       | false ↦ λ other. ap (cond (eq_by_cmp place_cmp q e.0) (Some e.1)) (find-remove_entry es cell q apart)
     ] refl
 
-pub set_leaves : (cells : List (Place × Content)) (cell : Place) (content : Content) (q : Place) → touched (Set cell content) q ≡ false → content_at (book_of (with_content cells cell content)) q ≡ content_at (book_of cells) q
+pub set_leaves : (before after : Book) (cell : Place) (content : Content) → after.cells ≡ with_content before.cells cell content → (q : Place) → eq_by_cmp place_cmp cell q ≡ false → content_at after q ≡ content_at before q
 unfolding content_at
-set_leaves cells cell content q apart =
-    ap (λ o. unwrap_or o Empty)
-    (elim (is_held content) as (λ b. find place_cmp q (cond b (insert_entry place_cmp cells cell content) (remove_entry (is_at (place_cmp cell)) cells)) ≡ find place_cmp q cells) [
-      | true ↦ find-insert_entry cells cell q content apart
-      | false ↦ find-remove_entry cells cell q apart
+set_leaves before after cell content same q apart =
+    ap (λ cells. unwrap_or (find place_cmp q cells) Empty) same
+    ∙ ap (λ o. unwrap_or o Empty)
+    (elim (is_held content) as (λ b. find place_cmp q (cond b (insert_entry place_cmp before.cells cell content) (remove_entry (is_at (place_cmp cell)) before.cells)) ≡ find place_cmp q before.cells) [
+      | true ↦ find-insert_entry before.cells cell q content apart
+      | false ↦ find-remove_entry before.cells cell q apart
     ])
 
-pub clear_leaves : (cells : List (Place × Content)) (area : Rectangle) (q : Place) → touched (Clear area) q ≡ false → content_at (book_of (without_area cells area)) q ≡ content_at (book_of cells) q
+pub clear_leaves : (before after : Book) (area : Rectangle) → after.cells ≡ without_area before.cells area → (q : Place) → covers area q ≡ false → content_at after q ≡ content_at before q
 unfolding content_at
-clear_leaves cells area q apart =
-    ap (λ o. unwrap_or o Empty)
-    (find-lookup place_cmp q (without_area cells area)
-    ∙ lookup-filter-keys (is_at (place_cmp q)) (λ p. not (covers area p)) true (λ k same. ap not (subst (λ p. covers area p ≡ false) (same_places q k same) apart)) cells
-    ∙ sym (find-lookup place_cmp q cells))
+clear_leaves before after area same q apart =
+    ap (λ cells. unwrap_or (find place_cmp q cells) Empty) same
+    ∙ ap (λ o. unwrap_or o Empty)
+    (find-lookup place_cmp q (without_area before.cells area)
+    ∙ lookup-filter-keys (is_at (place_cmp q)) (λ p. not (covers area p)) true (λ k is. ap not (subst (λ p. covers area p ≡ false) (same_places q k is) apart)) before.cells
+    ∙ sym (find-lookup place_cmp q before.cells))

@@ -1,14 +1,34 @@
 -- Sets of cells: one more cell, and cells of an area.
 use Rattle.std.proofs.Common.{◌≡◌, ◌&&◌, max, Bool, true, false, not, ◌||◌, cond, List, [], ◌∷◌, refl, sym, ap, ◌∙◌, subst, ◌⊎◌, inl, inr, arith}
-use Rattle.std.proofs.lemmas.Bool.{or_parts}
+use Rattle.std.proofs.lemmas.Bool.{both_ways, not-true, or_parts}
 use Rattle.std.specs.List.{list_all, list_any}
-use Rattle.std.specs.Ordering.{eq_by_cmp}
+use Rattle.std.specs.Ordering.{eq_by_cmp, is_eq, match_ordering}
+use Rattle.std.specs.declared.cmp.Ordering.TheVariants.{Less, Equal, Greater}
+use Rattle.std.specs.BTreeMap.{is_at}
+use Rattle.std.specs.BTreeSet.{insert_key}
+use Rattle.std.specs.Set.{remove_key}
 use Rattle.calc_addr.specs.Places.{Place, Rectangle, covers, place_cmp, places}
 use Rattle.calc_model.proofs.Areas.{Inside, all_places, both_true, covered, inside, places_all}
 use Rattle.calc_model.proofs.Places.{same_places}
 use Rattle.calc_model.proofs.Reached.{either, or_first, or_second, or_true, same_cell, some_item}
 use Rattle.plain_evaluator.proofs.Covered.{same_tests}
 use Rattle.plain_workbook.specs.Touched.{Parts, contains_cell, is_touched}
+
+-- a new cell that is taken out again leaves the cells as they were
+key_taken_back : (cells : List Place) (cell : Place) → contains_cell cells cell ≡ false → remove_key (is_at (place_cmp cell)) (insert_key place_cmp cells cell) ≡ cells
+key_taken_back [] cell absent = ap (λ b. cond b [] (cell ∷ [])) (same_cell cell)
+key_taken_back (x ∷ xs) cell absent =
+    let parts = or_parts (eq_by_cmp place_cmp cell x) (contains_cell xs cell) absent in
+    elim (place_cmp cell x) as (λ o. place_cmp cell x ≡ o → remove_key (is_at (place_cmp cell)) (match_ordering o (cell ∷ x ∷ xs) (x ∷ xs) (x ∷ insert_key place_cmp xs cell)) ≡ x ∷ xs) [
+      | Less ↦ λ below. ap (λ b. cond b (x ∷ xs) (cell ∷ remove_key (is_at (place_cmp cell)) (x ∷ xs))) (same_cell cell)
+      | Equal ↦ λ same. absurd (both_ways _ parts.0 (ap is_eq same))
+      | Greater ↦ λ above. ap (λ b. cond b (insert_key place_cmp xs cell) (x ∷ remove_key (is_at (place_cmp cell)) (insert_key place_cmp xs cell))) parts.0 ∙ ap (λ rest. x ∷ rest) (key_taken_back xs cell parts.1)
+    ] refl
+
+pub taken_back : (old more back : Parts) (cell : Place) → more ≡ record old { cells = insert_key place_cmp old.cells cell } → back ≡ record more { cells = remove_key (is_at (place_cmp cell)) more.cells } → true ≡ not (contains_cell old.cells cell) → back ≡ old
+taken_back old more back cell added removed new =
+    removed ∙ ap (λ (p : Parts). record p { cells = remove_key (is_at (place_cmp cell)) p.cells }) added
+    ∙ ap (λ cells. record old { cells = cells }) (key_taken_back old.cells cell (not-true _ (sym new)))
 
 pub one_more_cell : (all old areas same : Bool) → (all || cond same true old || areas) ≡ ((all || old || areas) || same)
 one_more_cell true old areas same = refl

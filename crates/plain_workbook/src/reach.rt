@@ -53,11 +53,7 @@ fn sweep(
 }
 
 /// Adds the formula where it is to be added and isn't found, and answers whether it did.
-fn mark(
-    touched: &Touched,
-    found: &mut BTreeSet<Cell>,
-    reader: &Reader,
-) -> Result<bool, NoMemory>
+fn mark(touched: &Touched, found: &mut BTreeSet<Cell>, reader: &Reader) -> Result<bool, NoMemory>
     ensures added { IfOk result (λ added. added ≡ true →
         Adds (is_touched touched.now) found.old.keys found.new.keys reader.now) }
     ensures same { IfOk result (λ added. added ≡ false → found.new.keys ≡ found.old.keys) }

@@ -1,5 +1,8 @@
 //! The cells that edits touched since the last recalculation.
-ghost use Rattle.std.specs.Prelude.{◌≡◌, ◌||◌, true, false, OnOk};
+ghost use Rattle.std.specs.Prelude.{◌≡◌, ◌||◌, true, false, not, IfOk, OnOk, OnErr};
+ghost use Rattle.std.specs.BTreeMap.{is_at};
+ghost use Rattle.std.specs.BTreeSet.{insert_key};
+ghost use Rattle.std.specs.Set.{remove_key};
 ghost use Rattle.std.specs.List.{list_any};
 ghost use Rattle.std.specs.Ordering.{eq_by_cmp};
 ghost use Rattle.calc_addr.specs.Places.{Place, covers, place_cmp, places};
@@ -51,15 +54,32 @@ impl Touched {
         }
     }
 
-    pub(crate) fn add_cell(&mut self, cell: Cell) -> Result<(), NoMemory>
-        ensures { OnOk result ((q : Place) → is_touched self.new q ≡ (is_touched self.old q || eq_by_cmp place_cmp cell q)) }
+    /// Adds the cell, and answers whether it wasn't among the single cells.
+    pub(crate) fn add_cell(&mut self, cell: Cell) -> Result<bool, NoMemory>
+        ensures touched { OnOk result ((q : Place) →
+            is_touched self.new q ≡ (is_touched self.old q || eq_by_cmp place_cmp cell q)) }
+        ensures parts { OnOk result
+            (self.new ≡ record self.old { cells = insert_key place_cmp self.old.cells cell }) }
+        ensures added { IfOk result (λ added. added ≡ not (contains_cell self.old.cells cell)) }
+        ensures there { IfOk result (λ added. added ≡ false → self.new ≡ self.old) }
+        ensures err { OnErr result (self.new ≡ self.old) }
     {
-        self.cells.insert(cell)?;
-        Ok(())
+        let added = self.cells.insert(cell)?;
+        Ok(added)
+    }
+
+    /// Takes the cell out of the single cells.
+    pub(crate) fn remove_cell(&mut self, cell: Cell)
+        ensures { self.new
+            ≡ record self.old { cells = remove_key (is_at (place_cmp cell)) self.old.cells } }
+    {
+        self.cells.remove(&cell);
     }
 
     pub(crate) fn add_area(&mut self, area: Area) -> Result<(), NoMemory>
-        ensures { OnOk result ((q : Place) → is_touched self.new q ≡ (is_touched self.old q || covers area q)) }
+        ensures touched { OnOk result ((q : Place) →
+            is_touched self.new q ≡ (is_touched self.old q || covers area q)) }
+        ensures err { OnErr result (self.new ≡ self.old) }
     {
         self.areas.push(area)?;
         Ok(())

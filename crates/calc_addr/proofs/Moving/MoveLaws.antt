@@ -13,6 +13,7 @@ use Rattle.calc_addr.specs.declared.ends.End.{End}
 use Rattle.calc_addr.specs.declared.ends.Ends.{Ends}
 use Rattle.calc_addr.specs.declared.reference.Span.{Span}
 use Rattle.calc_addr.specs.declared.reference.Span.TheVariants as span
+use Rattle.calc_addr.proofs.References.Parts.{pair_of}
 use Rattle.calc_addr.proofs.References.EndsInOrder.{in_order-down, in_order-up}
 use Rattle.calc_addr.proofs.Moving.MovedEnds.{moved_spanned}
 
@@ -64,19 +65,6 @@ by_mark last distance at f false low high to =
 
 moved_back : (last : ℕ) (distance : ℤ) (e f : End) → 1 ≤ e.at → e.at ≤ last → moved_end last distance e ≡ Some f → IsBack last distance e f
 moved_back last distance e f low high to = by_mark last distance e.at f e.marked low high to
-
--- both parts of what is together
-pub record ArePair {A B C : Type 0} (f : A → B → C) (x : Option A) (y : Option B) (c : C) : Type 0 where
-  pub first : A
-  pub second : B
-  pub first_is : x ≡ Some first
-  pub second_is : y ≡ Some second
-  pub made : f first second ≡ c
-
-pub pair_of : {A B C : Type 0} (f : A → B → C) (x : Option A) (y : Option B) (c : C) → together f x y ≡ Some c → ArePair f x y c
-pair_of f (Some a) (Some b) c e = record { first = a; second = b; first_is = refl; second_is = refl; made = cc }
-pair_of f (Some a) None c e = cc
-pair_of f None y c e = cc
 
 -- the ends of one axis, there and back
 record AreBack (last : ℕ) (move : ℤ → Ends → Option Ends) (distance : ℤ) (e f : Ends) : Type 0 where

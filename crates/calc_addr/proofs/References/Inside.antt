@@ -4,33 +4,20 @@ use Rattle.std.specs.Prelude.{option_map, unwrap_or, is_some, length, ◌==◌}
 use Rattle.std.specs.List.{list_any, before_first, after_first}
 use Rattle.std.specs.Option.{option_and_then, option_or}
 use Rattle.std.proofs.lemmas.Bool.{cases_lt}
-use Rattle.calc_addr.specs.Bracketed.{after_point, column_end, corner_ends, end_of, inside, one_cell, row_end, spelled_reference, spelled_span, two_cells, two_columns, two_ends, two_rows, bare_name, written_sheet}
+use Rattle.calc_addr.specs.Bracketed.{IsSheet, after_point, column_end, corner_ends, inside, one_cell, row_end, spelled_reference, spelled_span, two_cells, two_columns, two_ends, two_rows, bare_name, written_sheet}
 use Rattle.calc_addr.specs.Ends.{AreEnds, in_order, whole, reference_of}
 use Rattle.calc_addr.specs.References.{Reference, IsSpanned, IsValidReference}
 use Rattle.calc_addr.specs.Spelling.{column_part, is_colon, is_point, row_part, sheet_of, undollared}
 use Rattle.calc_addr.specs.declared.ends.End.{End}
 use Rattle.calc_addr.specs.declared.ends.Ends.{Ends}
-use Rattle.calc_addr.specs.declared.read.Spelled.{Spelled}
-use Rattle.calc_addr.specs.declared.read.Spelled.TheVariants.{Is, Outside, Not}
 use Rattle.calc_addr.specs.declared.reference.Span.{Span}
 use Rattle.calc_addr.specs.declared.reference.Span.TheVariants as span
 use Rattle.calc_addr.proofs.References.EndsInOrder.{in_order-down, in_order-same, in_order-up}
 use Rattle.calc_addr.proofs.Spelling.Joined.{sheet_of-inside}
-use Rattle.calc_addr.proofs.Moving.MoveLaws.{pair_of}
+use Rattle.calc_addr.proofs.References.Parts.{end_is, inside_is, pair_of}
 use Rattle.calc_addr.proofs.Spelling.Inside.{LiesUpTo, column_of-inside, row_of-inside}
 
 -- an end that is spelled lies inside
-pub inside_is : (x : Spelled ℕ) (n : ℕ) → inside x ≡ Some n → x ≡ Is n
-inside_is (Is m) n e = cc
-inside_is Outside n e = cc
-inside_is Not n e = cc
-
-pub end_is : (text : List ℕ) (o : Option ℕ) (e : End) → end_of text o ≡ Some e → o ≡ Some e.at
-end_is text None e h = cc
-end_is text (Some n) e h =
-    let there : ◌≡◌ {A = Option ℕ} (option_map (λ (x : End). x.at) (end_of text (Some n))) (Some e.at) = ap (option_map (λ (x : End). x.at)) h in
-    there
-
 column_end-inside : (text : List ℕ) (e : End) → column_end text ≡ Some e → LiesUpTo 1024 e.at
 column_end-inside text e h = column_of-inside (undollared text) e.at (inside_is _ e.at (end_is text _ e h))
 
@@ -45,10 +32,6 @@ in_order-AreEnds last a b h k = ⊎_elim
 
 whole-AreEnds : (last : ℕ) → 1 ≤ last → AreEnds last (whole last)
 whole-AreEnds last h = record { from = omega arith; ordered = h; to = omega arith }
-
--- the sheet of a reference
-abbrev IsSheet : Option ℕ → Type 0
-IsSheet sheet = (n : ℕ) → sheet ≡ Some n → n ≤ 15
 
 sheet_number : (sheet : Option ℕ) → IsSheet sheet → unwrap_or sheet 0 ≤ 15
 sheet_number None h = omega arith

@@ -55,8 +55,8 @@ round_up count (suc rest) unit small =
     ap (λ k. k / unit) whole ∙ div-mul-add (count + 1) unit rest (omega arith) ∙ sym (cond-true (not (eqb (suc rest) 0)) (count + 1) count (ap not (eqb-suc-zero rest)))
 
 -- what each way picks for so many units and a rest
-pub one_more-nearest : (negative : Bool) (count rest unit : ℕ) → rest < unit → with_sign negative (if leb unit (2 * rest) then count + 1 else count) ≡ nearest (with_sign negative (count * unit + rest)) unit
-one_more-nearest negative count rest unit small =
+pub one_more_nearest : (negative : Bool) (count rest unit : ℕ) → rest < unit → with_sign negative (if leb unit (2 * rest) then count + 1 else count) ≡ nearest (with_sign negative (count * unit + rest)) unit
+one_more_nearest negative count rest unit small =
     ap (with_sign negative) (elim (cases_lt (2 * rest) unit) [
       | inl below ↦
           cond-false (leb unit (2 * rest)) (count + 1) count (lt-leb unit (2 * rest) below) ∙ sym (rounded-below_half count rest unit below)
@@ -64,16 +64,16 @@ one_more-nearest negative count rest unit small =
           cond-true (leb unit (2 * rest)) (count + 1) count (le-leb unit (2 * rest) above) ∙ sym (rounded-from_half count rest unit small above)
     ]) ∙ sym (nearest-sign negative (count * unit + rest) unit (omega arith))
 
-pub one_more-away : (negative : Bool) (count rest unit : ℕ) → rest < unit → with_sign negative (if not (eqb rest 0) then count + 1 else count) ≡ pick Away (with_sign negative (count * unit + rest)) unit
-one_more-away negative count rest unit small =
+pub one_more_away : (negative : Bool) (count rest unit : ℕ) → rest < unit → with_sign negative (if not (eqb rest 0) then count + 1 else count) ≡ pick Away (with_sign negative (count * unit + rest)) unit
+one_more_away negative count rest unit small =
     ap (with_sign negative) (sym (round_up count rest unit small)) ∙ sym (pick-away_sign negative (count * unit + rest) unit (omega arith))
 
-pub one_more-toward : (negative : Bool) (count rest unit : ℕ) → rest < unit → with_sign negative count ≡ pick Toward (with_sign negative (count * unit + rest)) unit
-one_more-toward negative count rest unit small =
+pub one_more_toward : (negative : Bool) (count rest unit : ℕ) → rest < unit → with_sign negative count ≡ pick Toward (with_sign negative (count * unit + rest)) unit
+one_more_toward negative count rest unit small =
     ap (with_sign negative) (sym (div-mul-add count unit rest small)) ∙ sym (pick-toward_sign negative (count * unit + rest) unit (omega arith))
 
-pub one_more-floor : (count rest unit : ℕ) → rest < unit → neg_ℤ (pos (if not (eqb rest 0) then count + 1 else count)) ≡ pick Floor (neg_ℤ (pos (count * unit + rest))) unit
-one_more-floor count rest unit small =
+pub one_more_floor : (count rest unit : ℕ) → rest < unit → neg_ℤ (pos (if not (eqb rest 0) then count + 1 else count)) ≡ pick Floor (neg_ℤ (pos (count * unit + rest))) unit
+one_more_floor count rest unit small =
     ap (λ k. neg_ℤ (pos k)) (sym (round_up count rest unit small)) ∙ pick-floor_negative (count * unit + rest) unit (omega arith)
 
 -- beyond every number the unit doesn't matter: each way picks 0, or one unit that is out of range
@@ -126,8 +126,8 @@ pick-far way n places small =
           ap (λ k. checked (pick way n (10 ^ k) *ℤ pos (10 ^ k))) (min-eq_right {n = 28} {m = places} above) ∙ is_far way n (10 ^ 28) small (omega arith) ∙ sym (is_far way n (10 ^ places) small (pow-le-pow_right {n = 10} (omega arith) {i = 28} {j = places} above))
     ]
 
-pub round_to-sizes : (way : Way) (digits n : ℤ) (count : ℕ) → nat_abs n < 10 ^ 27 → int_le (pos 9) digits ≡ false → with_sign (lt_z n (pos 0)) count ≡ pick way n (10 ^ min (fewer_than_nine digits) 28) → checked (with_sign (lt_z n (pos 0)) (count * 10 ^ min (fewer_than_nine digits) 28)) ≡ round_to way digits n
-round_to-sizes way digits n count small fewer picks =
+pub round_to_of_sizes : (way : Way) (digits n : ℤ) (count : ℕ) → nat_abs n < 10 ^ 27 → int_le (pos 9) digits ≡ false → with_sign (lt_z n (pos 0)) count ≡ pick way n (10 ^ min (fewer_than_nine digits) 28) → checked (with_sign (lt_z n (pos 0)) (count * 10 ^ min (fewer_than_nine digits) 28)) ≡ round_to way digits n
+round_to_of_sizes way digits n count small fewer picks =
     let places = fewer_than_nine digits in
     let unit = 10 ^ min places 28 in
     ap checked (times-sign (lt_z n (pos 0)) count unit ∙ ap (λ k. k *ℤ pos unit) picks) ∙ pick-far way n places small ∙ sym (cond-false (int_le (pos 9) digits) (Ok n) (checked (pick way n (10 ^ places) *ℤ pos (10 ^ places))) fewer)

@@ -28,23 +28,23 @@ split_second a b u h some =
     ap (λ n. a * n + h) (sym (div-add-mod' b u)) ∙ omega arith in
     rw parts (mul-add-div_right {m = u} some (a * (b / u)) (a * (b % u) + h))
 
-pub rounded-product : (a b : ℕ) → rounded (a * b) (10 ^ 9) ≡ a / 10 ^ 9 * b + (a % 10 ^ 9 * (b / 10 ^ 9) + (a % 10 ^ 9 * (b % 10 ^ 9) + 5 * 10 ^ 8) / 10 ^ 9)
-rounded-product a b =
+pub product_parted : (a b : ℕ) → rounded (a * b) (10 ^ 9) ≡ a / 10 ^ 9 * b + (a % 10 ^ 9 * (b / 10 ^ 9) + (a % 10 ^ 9 * (b % 10 ^ 9) + 5 * 10 ^ 8) / 10 ^ 9)
+product_parted a b =
     rounded-even (a * b) (5 * 10 ^ 8) (omega arith) ∙ split_product a b (10 ^ 9) (5 * 10 ^ 8) (omega arith) ∙ ap (λ n. a / 10 ^ 9 * b + n) (split_second (a % 10 ^ 9) b (10 ^ 9) (5 * 10 ^ 8) (omega arith))
 
 -- the same in four products
-pub rounded-product_parts : (a b : ℕ) → a / 10 ^ 9 * (b / 10 ^ 9) * 10 ^ 9 + (a / 10 ^ 9 * (b % 10 ^ 9) + a % 10 ^ 9 * (b / 10 ^ 9)) + (a % 10 ^ 9 * (b % 10 ^ 9) + 5 * 10 ^ 8) / 10 ^ 9 ≡ rounded (a * b) (10 ^ 9)
-rounded-product_parts a b =
+pub product_in_four : (a b : ℕ) → a / 10 ^ 9 * (b / 10 ^ 9) * 10 ^ 9 + (a / 10 ^ 9 * (b % 10 ^ 9) + a % 10 ^ 9 * (b / 10 ^ 9)) + (a % 10 ^ 9 * (b % 10 ^ 9) + 5 * 10 ^ 8) / 10 ^ 9 ≡ rounded (a * b) (10 ^ 9)
+product_in_four a b =
     let whole : a / 10 ^ 9 * b ≡ a / 10 ^ 9 * (b / 10 ^ 9 * 10 ^ 9 + b % 10 ^ 9) = ap (λ n. a / 10 ^ 9 * n) (sym (div-add-mod' b (10 ^ 9))) in
-    omega (arith, rounded-product a b)
+    omega (arith, product_parted a b)
 
 -- which is at the limit where the whole parts' product is too large
-pub rounded-product_large : (a b : ℕ) → 10 ^ 18 ≤ a / 10 ^ 9 * (b / 10 ^ 9) → 10 ^ 27 ≡ min (rounded (a * b) (10 ^ 9)) (10 ^ 27)
-rounded-product_large a b large = omega (arith, rounded-product_parts a b)
+pub product_large : (a b : ℕ) → 10 ^ 18 ≤ a / 10 ^ 9 * (b / 10 ^ 9) → 10 ^ 27 ≡ min (rounded (a * b) (10 ^ 9)) (10 ^ 27)
+product_large a b large = omega (arith, product_in_four a b)
 
 -- where the divisor is a multiple, the fraction is reduced
-pub rounded-reduced : (a b u v : ℕ) → 0 < u → b % u ≡ 0 → rounded (a * (v * u)) b ≡ rounded (a * v) (b / u)
-rounded-reduced a b u v some whole =
+pub rounded_reduced : (a b u v : ℕ) → 0 < u → b % u ≡ 0 → rounded (a * (v * u)) b ≡ rounded (a * v) (b / u)
+rounded_reduced a b u v some whole =
     let top : a * (v * u) ≡ u * (a * v) = omega arith in
     let bottom : b ≡ u * (b / u) = sym (div-add-mod' b u) ∙ rw whole (omega arith) in
     rw top (ap (rounded (u * (a * v))) bottom ∙ rounded-scaled u (a * v) (b / u) some)
@@ -66,10 +66,10 @@ split_parts s d w =
     let front : s / w / d * w * d + s / w % d * w ≡ (s / w / d * d + s / w % d) * w = omega arith in
     omega (arith, front, ap (λ n. n * w) (div-add-mod' (s / w) d), div-add-mod' s w)
 
-pub divide-split : (s d w : ℕ) → 0 < d → s / w / d * w + (s / w % d * w + s % w) / d ≡ s / d
-divide-split s d w some =
+pub divided_in_steps : (s d w : ℕ) → 0 < d → s / w / d * w + (s / w % d * w + s % w) / d ≡ s / d
+divided_in_steps s d w some =
     sym (mul-add-div_right {m = d} some (s / w / d * w) (s / w % d * w + s % w)) ∙ ap (λ n. n / d) (split_parts s d w)
 
-pub mod-split : (s d w : ℕ) → (s / w % d * w + s % w) % d ≡ s % d
-mod-split s d w =
+pub rest_in_steps : (s d w : ℕ) → (s / w % d * w + s % w) % d ≡ s % d
+rest_in_steps s d w =
     sym (mul-add-mod_self_right (s / w / d * w) d (s / w % d * w + s % w)) ∙ ap (λ n. n % d) (split_parts s d w)

@@ -30,9 +30,9 @@ below_root square root small under =
     ]
 
 -- where a number's product with the one before it is below a square, no root of it is less
-pub least_root-from : (square root r : ℕ) → root * root < square + root → square ≤ r * (r + 1) → root ≤ r
-least_root-from square zero r under past = omega arith
-least_root-from square (suc k) r under past =
+pub root_from : (square root r : ℕ) → root * root < square + root → square ≤ r * (r + 1) → root ≤ r
+root_from square zero r under past = omega arith
+root_from square (suc k) r under past =
     elim (cases_lt r (suc k)) [
       | inl below ↦ absurd (omega (arith, mul-le r (r + 1) k (k + 1) (omega arith) (omega arith)))
       | inr above ↦ above
@@ -46,8 +46,8 @@ from-past : (n r : ℕ) → 4 * n * 10 ^ 9 < (2 * r + 1) * (2 * r + 1) → n * 1
 from-past n r past = omega arith
 
 -- what makes a number the root
-pub IsLeastRoot-from : (z : ℤ) (root : ℕ) → unsigned_abs z * 10 ^ 9 ≤ root * (root + 1) → ((r : ℕ) → unsigned_abs z * 10 ^ 9 ≤ r * (r + 1) → root ≤ r) → IsLeastRoot z (pos root)
-IsLeastRoot-from z root past least = record {
+pub root_is_least : (z : ℤ) (root : ℕ) → unsigned_abs z * 10 ^ 9 ≤ root * (root + 1) → ((r : ℕ) → unsigned_abs z * 10 ^ 9 ≤ r * (r + 1) → root ≤ r) → IsLeastRoot z (pos root)
+root_is_least z root past least = record {
   past = past-from (unsigned_abs z) root past;
   least = λ r beyond. least r (from-past (unsigned_abs z) r beyond);
 }
@@ -61,6 +61,6 @@ least_root-is n root small past least =
     ])
     (λ k above. lt-ltb (4 * n * 10 ^ 9) ((2 * k + 1) * (2 * k + 1)) (past-from n k (omega (arith, mul-le root (root + 1) k (k + 1) above (omega arith)))))
 
-pub sqrt-is : (z : ℤ) (root : ℕ) → lt_z z (pos 0) ≡ false → unsigned_abs z < 10 ^ 27 → unsigned_abs z * 10 ^ 9 ≤ root * (root + 1) → ((r : ℕ) → unsigned_abs z * 10 ^ 9 ≤ r * (r + 1) → root ≤ r) → Ok (pos root) ≡ sqrt z
-sqrt-is (pos n) root not_below small past least = ap (λ r. Ok (pos r)) (sym (least_root-is n root small past least))
-sqrt-is (negsuc n) root not_below small past least = absurd (false≢true (sym not_below))
+pub sqrt_is_root : (z : ℤ) (root : ℕ) → lt_z z (pos 0) ≡ false → unsigned_abs z < 10 ^ 27 → unsigned_abs z * 10 ^ 9 ≤ root * (root + 1) → ((r : ℕ) → unsigned_abs z * 10 ^ 9 ≤ r * (r + 1) → root ≤ r) → Ok (pos root) ≡ sqrt z
+sqrt_is_root (pos n) root not_below small past least = ap (λ r. Ok (pos r)) (sym (least_root-is n root small past least))
+sqrt_is_root (negsuc n) root not_below small past least = absurd (false≢true (sym not_below))

@@ -17,8 +17,8 @@ pub power_some : (k : ℕ) → 1 ≤ 10 ^ k
 power_some k = one-le-pow k 10 (omega arith)
 
 -- the table of powers
-pub POWERS-at : (k : ℕ) → k ≤ 18 → get_or POWERS k 0 ≡ 10 ^ k
-POWERS-at k within =
+pub powers_of_ten : (k : ℕ) → k ≤ 18 → get_or POWERS k 0 ≡ 10 ^ k
+powers_of_ten k within =
     let table : POWERS ≡ map (λ i. 10 ^ i) (range_with_len 0 19) = refl in
     ap (λ powers. get_or powers k 0) table ∙ get_or-map-range_with_len (λ i. 10 ^ i) 0 19 k k 0 (omega arith) (omega arith)
 

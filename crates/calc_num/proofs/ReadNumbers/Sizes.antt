@@ -62,23 +62,6 @@ worth-size_of whole fraction (negsuc e) places sum =
     let count : places + suc e ≡ length whole + 9 = omega (arith, ints) in
     worth-zero (whole ++ fraction) places _ (length-append whole fraction) ∙ ap (λ r. min r (10 ^ 27)) (sym (lowered n (length whole) (length fraction) (suc e) places count))
 
--- where each digit stands before the cut, both sides of the point only get zeros
-pub size_of-zeros : (whole fraction : List ℕ) (exponent : ℤ) (before behind : ℕ) → pos 9 +ℤ exponent ≡ pos before → behind + length fraction ≡ before → size_of record { whole = whole; fraction = fraction; exponent = exponent } ≡ min (digits_number whole * 10 ^ before + digits_number fraction * 10 ^ behind) (10 ^ 27)
-size_of-zeros whole fraction exponent before behind shift sum =
-    let k = length whole + length fraction in
-    let places = length whole + before in
-    let n = digits_number (whole ++ fraction) in
-    let count : k + behind ≡ places = omega arith in
-    let size = n * 10 ^ behind in
-    let top : n * 10 ^ places ≡ 10 ^ k * size = ap (λ p. n * 10 ^ p) (sym count) ∙ rw (pow-add 10 k behind) (omega arith) in
-    let once : 10 ^ k ≡ 10 ^ k * 1 = omega arith in
-    let exact : rounded (n * 10 ^ places) (10 ^ k) ≡ size =
-    ap (λ p. rounded p (10 ^ k)) top ∙ ap (rounded (10 ^ k * size)) once ∙ rounded-scaled (10 ^ k) size 1 (power_some k) ∙ rounded-whole size in
-    let power : 10 ^ before ≡ 10 ^ behind * 10 ^ length fraction = ap (λ p. 10 ^ p) (sym sum) ∙ pow-add 10 behind (length fraction) in
-    let sides : n * 10 ^ behind ≡ digits_number whole * 10 ^ before + digits_number fraction * 10 ^ behind =
-    rw (both_sides whole fraction, power) (omega arith) in
-    sym (worth-size_of whole fraction exponent places (omega (arith, ints))) ∙ worth-zero (whole ++ fraction) places k (length-append whole fraction) ∙ ap (λ size. min size (10 ^ 27)) (exact ∙ sides)
-
 digits_fit : (whole fraction : List ℕ) → list_all is_ascii_digit (whole ++ fraction) ≡ true → digits_number (whole ++ fraction) < 10 ^ (length whole + length fraction)
 digits_fit whole fraction all =
     subst (λ k. digits_number (whole ++ fraction) < 10 ^ k) (length-append whole fraction) (digits_number-lt (whole ++ fraction) all)

@@ -17,7 +17,7 @@ use Rattle.formula_reader.proofs.Steps.{empty_from, either}
 use Rattle.calc_addr.specs.Spelling.{are_digits, are_digits_or_zero, are_letters, column_len, column_part, is_colon, is_point, row_part, sheet_number, sheet_of, undollared}
 use Rattle.calc_addr.specs.declared.read.Spelled.{Spelled}
 use Rattle.calc_addr.specs.declared.read.Spelled.TheVariants.{Is, Outside, Not}
-use Rattle.calc_addr.proofs.Moving.MoveLaws.{pair_of}
+use Rattle.calc_addr.proofs.References.Parts.{pair_of}
 use Rattle.formula_reader.specs.Leaves.{is_closing}
 
 -- an end of a reference, which has its place and mark

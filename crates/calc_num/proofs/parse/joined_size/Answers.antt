@@ -1,4 +1,4 @@
-use Rattle.std.proofs.Common.{◌≡◌, pos, ◌+ℤ◌, FitsSigned, length, ap, sym, ◌∙◌, rules}
+use Rattle.std.proofs.Common.{pos, ◌+ℤ◌, FitsSigned, ap, sym, ◌∙◌, rules}
 use lib.Signed.{lt_z}
 use Rattle.std.specs.Int.{w128}
 use Rattle.std.proofs.lemmas.Int.{to_z-of_z}

@@ -16,10 +16,10 @@ loop-cell-preserved-in-Continue-branch-2 c =
     let holds = subst (AllByRecursion (λ (entry : Place × Content). content_at book entry.0 ≡ entry.1)) c.in-Some.ensures.steps c.loop-cell.invariant.holds in
     record {
       so_far =
-        one_more_formula book c.loop-cell.readers.items c.push.new.self.items (readers_of book) (cell, c.in-Some.content.now) c.loop-cell.cell-iterator c.next.new.self c.in-Formula.formula c.push_areas.new.out.items
-        c.loop-cell.invariant.so_far c.in-Some.ensures.steps c.in-Formula.is holds.0 c.iter-cell-items.ensures.names
-        (c.in_ok-push_areas.ensures ∙ ap (λ front. front ++ areas cell no_names c.tree.result.now) c.new-areas.ensures.items ∙ ap (areas cell no_names) c.tree.ensures.value)
-        c.in_ok-push.ensures.items;
+          one_more_formula book c.loop-cell.readers.items c.push.new.self.items (readers_of book) (cell, c.in-Some.content.now) c.loop-cell.cell-iterator c.next.new.self c.in-Formula.formula c.push_areas.new.out.items
+          c.loop-cell.invariant.so_far c.in-Some.ensures.steps c.in-Formula.is holds.0 c.iter-cell-items.ensures.names
+          (c.in_ok-push_areas.ensures ∙ ap (λ front. front ++ areas cell no_names c.tree.result.now) c.new-areas.ensures.items ∙ ap (areas cell no_names) c.tree.ensures.value)
+          c.in_ok-push.ensures.items;
       holds = holds.1;
     }
 

@@ -1,12 +1,11 @@
 use Rattle.std.proofs.Common.{◌-◌, length}
-use Rattle.plain_evaluator.specs.Plain.{book_of}
 use Rattle.plain_workbook.specs.Reach.{IsFound, found_count}
 use Rattle.plain_workbook.specs.Touched.{is_touched}
 use Rattle.plain_workbook.proofs.reach.reached.Given as goal
 
 abbrev pub invariant-loop-found : goal.invariant-loop-found
-invariant-loop-found l = IsFound (book_of l.cells.entries) (is_touched l.touched) l.found.keys
+invariant-loop-found l = IsFound l.cells (is_touched l.touched) l.found.keys
 
--- the cells that aren't found yet
+-- the formulas that aren't found yet
 abbrev pub decreases-loop-found : goal.decreases-loop-found
-decreases-loop-found l = length l.cells.entries - found_count l.cells.entries l.found.keys
+decreases-loop-found l = length l.readers.items - found_count l.readers.items l.found.keys

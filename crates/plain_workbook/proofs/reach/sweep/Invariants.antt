@@ -1,21 +1,19 @@
-use Rattle.std.proofs.Common.{◌≡◌, ◌<◌, ◌≤◌, true, false}
+use Rattle.std.proofs.Common.{◌≡◌, ◌<◌, ◌≤◌, true, false, drop}
 use Rattle.std.specs.List.{list_all}
-use Rattle.plain_evaluator.specs.Plain.{book_of}
-use Rattle.plain_workbook.specs.Reach.{IsFound, found_count, is_settled}
+use Rattle.plain_workbook.specs.Reach.{KeepsFound, found_count, is_settled}
 use Rattle.plain_workbook.specs.Touched.{is_touched}
 use Rattle.plain_workbook.proofs.reach.sweep.Given as goal
 
--- each cell so far is settled, as long as none is added
-abbrev pub invariant-loop-cell : goal.invariant-loop-cell
-invariant-loop-cell l =
-    let cells = l.cells.entries in
-    let book = book_of cells in
+-- each formula so far is settled, as long as none is added
+abbrev pub invariant-loop-reader : goal.invariant-loop-reader
+invariant-loop-reader l =
     let touched = is_touched l.touched in
     let first = l.initial.found.keys in
+    let settled = list_all (is_settled touched first) in
     record {
-      found : IsFound book touched l.found.keys;
-      no_less : found_count cells first ≤ found_count cells l.found.keys;
-      more : l.more ≡ true → found_count cells first < found_count cells l.found.keys;
+      found : KeepsFound touched l.readers first l.found.keys;
+      no_less : found_count l.readers first ≤ found_count l.readers l.found.keys;
+      more : l.more ≡ true → found_count l.readers first < found_count l.readers l.found.keys;
       same : l.more ≡ false → l.found.keys ≡ first;
-      settled : l.more ≡ false → list_all (λ entry. is_settled book touched first entry.0) l.cell-iterator ≡ true → list_all (λ entry. is_settled book touched first entry.0) cells ≡ true;
+      settled : l.more ≡ false → settled (drop l.reader-index l.readers) ≡ true → settled l.readers ≡ true;
     }

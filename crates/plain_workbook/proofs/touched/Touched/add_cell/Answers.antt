@@ -6,11 +6,11 @@ use Rattle.plain_workbook.specs.Touched.{contains_cell, is_touched}
 use Rattle.plain_workbook.proofs.Sets.{one_more_cell}
 use Rattle.plain_workbook.proofs.touched.Touched.add_cell.Goals as goal
 
-pub returns : goal.returns
+pub returns-clause-touched : goal.returns-clause-touched
 unfolding is_touched
-returns c = λ q.
+returns-clause-touched c = λ q.
     let parts = c.self.inside in
     let in_areas = list_any (λ area. covers area q) parts.areas.items in
-    ap (λ has. parts.all || has || in_areas) (c.in_ok-insert.ensures.updates.0 q)
+    ap (λ has. parts.all || has || in_areas) (c.in_ok-added.ensures.updates.0 q)
     ∙ one_more_cell parts.all (contains_cell parts.cells.keys q) in_areas (eq_by_cmp place_cmp c.args.cell q)
     ∙ ap (λ before. is_touched before q || eq_by_cmp place_cmp c.args.cell q) c.self.view_is
