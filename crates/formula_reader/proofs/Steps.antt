@@ -6,10 +6,10 @@ use Rattle.std.specs.List.{list_all, prefix_len, take_while}
 use Rattle.std.proofs.lemmas.Bool.{and_from, cond-false, cond-true, eqb-false, eqb-true}
 use Rattle.std.proofs.lemmas.List.{take-append-drop}
 use Rattle.std.proofs.lemmas.List.Sums.{take_while-cons}
-use Rattle.std.proofs.lemmas.Option.{same_Some}
+use Rattle.std.proofs.lemmas.Option.{same_Some, some_pair_parts}
 use Rattle.calc_model.specs.Tokens.{are_blanks, is_blank}
 use Rattle.byte_cuts.specs.Fronts.{behind, begins}
-use Rattle.formula_reader.specs.Unread.{◌>>=◌, Unread, next_is, past, skip, token_at, go_on, repeat, Fails}
+use Rattle.formula_reader.specs.Unread.{◌>>=◌, Unread, next_is, past, skip, token_at, go_on, repeat, Fails, some_taken, taken_if}
 use Rattle.formula_reader.specs.declared.cursor.Stop.{Stop}
 
 pub bind_some : {A B : Type 0} (o : Option A) (step : A → Option B) (y : B) → (o >>= step) ≡ Some y → (x : A) × (o ≡ Some x) × (step x ≡ Some y)
@@ -104,6 +104,31 @@ pub token_says : (byte : ℕ) (l after : Unread) → token_at byte l ≡ Some af
 token_says byte l after h =
     let parts = some_or (next_is byte l.bytes) (past l.tokens (drop 1 l.bytes)) after h in
     token_by byte l.bytes l.tokens after parts.0 parts.1
+
+-- what was found and taken, and what was not there
+pub record TakenSome {X : Type 0} (unread : Unread) (found : Option (X × List ℕ)) (x : X) (after : Unread) : Type 0 where
+  pub rest : List ℕ
+  pub is : found ≡ Some (x, rest)
+  pub passed : Past unread.tokens rest after
+
+pub taken_some : {X : Type 0} (unread after : Unread) (x : X) (found : Option (X × List ℕ)) → taken_if unread found ≡ Some (Some x, after) → TakenSome unread found x after
+taken_some unread after x None h = let none = (some_pair_parts None (Some x) unread after h).0 in cc
+taken_some {X} unread after x (Some found) h =
+    let made = map_some (some_taken found.0) (past unread.tokens found.1) (Some x, after) h in
+    let same : found.0 ≡ x = same_Some found.0 x (ap (λ (r : Option X × Unread). r.0) made.2) in
+    let last : made.0 ≡ after = ap (λ (r : Option X × Unread). r.1) made.2 in
+    record {
+      rest = found.1;
+      is = ap (λ y. Some (y, found.1)) same;
+      passed = subst (Past unread.tokens found.1) last (past_says unread.tokens found.1 made.0 made.1);
+    }
+
+pub taken_none : {X : Type 0} (unread after : Unread) (found : Option (X × List ℕ)) → taken_if unread found ≡ Some (None, after) → (found ≡ None) × (unread ≡ after)
+taken_none {X} unread after None h = (refl, (some_pair_parts {A = Option X} None None unread after h).1)
+taken_none {X} unread after (Some found) h =
+    let made = map_some (some_taken found.0) (past unread.tokens found.1) (None, after) h in
+    let some : Some found.0 ≡ None = ap (λ (r : Option X × Unread). r.0) made.2 in
+    cc
 
 -- what holds of each turn of a repeated step that leaves what is unread where it ends, while fewer turns may follow
 module _ {S : Type 0} (step : S → Unread → Option (Option S × Unread)) (stays : (state : S) (unread after : Unread) → step state unread ≡ Some (None, after) → unread ≡ after)

@@ -1,20 +1,19 @@
 -- One turn of each loop: over the operators behind an operand, over prefix operators, and over the parameters behind
 -- the first.
 use Rattle.formula_reader.specs.declared.operators.Operator.TheVariants as o
-use Rattle.std.proofs.Common.{◌≡◌, ◌≤◌, ◌<◌, ◌-◌, ℕ, zero, suc, Bool, true, false, cond, nat_le, List, Option, Some, None, refl, sym, ap, ◌∙◌, arith, ◌+◌, [], ◌∷◌, ◌++◌, subst}
+use Rattle.std.proofs.Common.{◌≡◌, ◌≤◌, ◌<◌, ◌-◌, ℕ, zero, suc, Bool, true, false, cond, nat_le, List, Option, Some, None, refl, sym, ap, ◌∙◌, arith, [], ◌∷◌, ◌++◌}
 use Rattle.std.specs.Prelude.{◌==◌, option_map}
 use Rattle.std.proofs.lemmas.Bool.{cond-false, cond-true, eqb-false, eqb-true, leb-true, ne_eqb}
 use Rattle.calc_model.specs.Grammar.{op_level}
 use Rattle.calc_model.proofs.GrammarLevels.{level_some}
 use Rattle.calc_model.specs.declared.tree.Tree.{Tree}
 use Rattle.formula_reader.specs.declared.operators.Operator.{Operator}
-use Rattle.formula_reader.specs.Unread.{◌>>=◌, Unread, past, repeat, Read, skip, next_is, token_at}
-use Rattle.formula_reader.specs.Operators.{beside_some, level_of, operator_at, operator_taken, taken_by, up_to}
+use Rattle.formula_reader.specs.Unread.{◌>>=◌, Unread, past, repeat, Read, skip, next_is, token_at, some_taken, taken_if}
+use Rattle.formula_reader.specs.Operators.{level_of, operator_at, operator_taken, up_to}
 use Rattle.formula_reader.specs.Operands.{Inside, attached, attached_by, infix_read, more_made, operands_at, operands_below, operator_behind, operators_behind, prefixed_at, behind_sign, prefixed_within, primary_at, arg_behind, args_at, more_args, pushed}
-use Rattle.std.proofs.lemmas.Option.{some_pair_parts}
 use Rattle.formula_reader.specs.declared.signs.Sign.{Sign}
-use Rattle.formula_reader.specs.Signs.{sign_at, sign_by, sign_found, sign_read, sign_taken, signed, signed_by, signs_read}
-use Rattle.formula_reader.proofs.Steps.{map_some, past_says}
+use Rattle.formula_reader.specs.Signs.{sign_at, sign_read, sign_taken, signed, signed_by, signs_read}
+use Rattle.formula_reader.proofs.Steps.{taken_some}
 
 module _ (nested : Inside) where
   -- what is read with tighter operands than a level below the bound
@@ -42,16 +41,16 @@ module _ (nested : Inside) where
       ap (λ right. right >>= infix_read (operands_at nested) op left) (bounded level tighter unread (omega arith) ∙ sym (bounded (suc tighter) tighter unread (omega arith)))
 
   -- behind an operator that was taken, and that the level allows
-  after_same : (level : ℕ) (left : Tree) (operator : Operator) (after : Option Unread) → level_of operator ≤ level → (option_map (beside_some operator) after >>= attached_by (operands_below nested level) left) ≡ (option_map (beside_some operator) after >>= attached_by (operands_at nested) left)
+  after_same : (level : ℕ) (left : Tree) (operator : Operator) (after : Option Unread) → level_of operator ≤ level → (option_map (some_taken operator) after >>= attached_by (operands_below nested level) left) ≡ (option_map (some_taken operator) after >>= attached_by (operands_at nested) left)
   after_same level left operator None h = refl
   after_same level left operator (Some after) h = ap (λ made. made >>= more_made (operands_at nested)) (attached_same level operator left after h)
 
   found_same : (level : ℕ) (left : Tree) (unread : Unread) (found : Operator × List ℕ) (b : Bool) → nat_le (level_of found.0) level ≡ b
-      → (taken_by unread (cond b (Some found) None) >>= attached_by (operands_below nested level) left) ≡ (taken_by unread (cond b (Some found) None) >>= attached_by (operands_at nested) left)
+      → (taken_if unread (cond b (Some found) None) >>= attached_by (operands_below nested level) left) ≡ (taken_if unread (cond b (Some found) None) >>= attached_by (operands_at nested) left)
   found_same level left unread found true e = after_same level left found.0 (past unread.tokens found.1) (leb-true (level_of found.0) level e)
   found_same level left unread found false e = refl
 
-  behind_same : (level : ℕ) (left : Tree) (unread : Unread) (found : Option (Operator × List ℕ)) → (taken_by unread (up_to level found) >>= attached_by (operands_below nested level) left) ≡ (taken_by unread (up_to level found) >>= attached_by (operands_at nested) left)
+  behind_same : (level : ℕ) (left : Tree) (unread : Unread) (found : Option (Operator × List ℕ)) → (taken_if unread (up_to level found) >>= attached_by (operands_below nested level) left) ≡ (taken_if unread (up_to level found) >>= attached_by (operands_at nested) left)
   behind_same level left unread None = refl
   behind_same level left unread (Some found) = found_same level left unread found (nat_le (level_of found.0) level) refl
 
@@ -86,30 +85,24 @@ past_more n rest =
     let less : suc n - 1 ≡ n = omega arith in
     cond-false (suc n == 0) _ _ (ne_eqb (suc n) 0 (omega arith)) ∙ ap (λ k. Some (record { bytes = skip rest; tokens = k })) less
 
-tokens_by : (unread after : Unread) (sign : Sign) (found : Option (Sign × List ℕ)) → sign_by unread found ≡ Some (Some sign, after) → after.tokens < unread.tokens
-tokens_by unread after sign None h = let none = (some_pair_parts None (Some sign) unread after h).0 in cc
-tokens_by unread after sign (Some found) h =
-    let made = map_some (sign_found found.0) (past unread.tokens found.1) (Some sign, after) h in
-    let same : made.0 ≡ after = ap (λ (r : Option Sign × Unread). r.1) made.2 in
-    let taken : unread.tokens ≡ 1 + made.0.tokens = (past_says unread.tokens found.1 made.0 made.1).tokens in
-    subst (λ (l : Unread). l.tokens < unread.tokens) same (omega arith)
-
 -- a sign takes a token
 pub sign_tokens : (unread after : Unread) (sign : Sign) → sign_taken unread ≡ Some (Some sign, after) → after.tokens < unread.tokens
 unfolding sign_taken
-sign_tokens unread after sign h = tokens_by unread after sign (sign_at unread.bytes) h
+sign_tokens unread after sign h =
+    let taken = (taken_some unread after sign (sign_at unread.bytes) h).passed in
+    omega arith
 
 module _ (nested : Inside) where
-  taken_last : (found : Option (Sign × List ℕ)) (bytes : List ℕ) → (sign_by (record { bytes = bytes; tokens = 0 }) found >>= behind_sign nested (λ rest. None)) ≡ (sign_by (record { bytes = bytes; tokens = 0 }) found >>= behind_sign nested (prefixed_at nested))
+  taken_last : (found : Option (Sign × List ℕ)) (bytes : List ℕ) → (taken_if (record { bytes = bytes; tokens = 0 }) found >>= behind_sign nested (λ rest. None)) ≡ (taken_if (record { bytes = bytes; tokens = 0 }) found >>= behind_sign nested (prefixed_at nested))
   taken_last None bytes = refl
   taken_last (Some found) bytes = refl
 
-  taken_more : (n : ℕ) (found : Option (Sign × List ℕ)) (bytes : List ℕ) → (sign_by (record { bytes = bytes; tokens = suc n }) found >>= behind_sign nested (prefixed_within nested n)) ≡ (sign_by (record { bytes = bytes; tokens = suc n }) found >>= behind_sign nested (prefixed_at nested))
+  taken_more : (n : ℕ) (found : Option (Sign × List ℕ)) (bytes : List ℕ) → (taken_if (record { bytes = bytes; tokens = suc n }) found >>= behind_sign nested (prefixed_within nested n)) ≡ (taken_if (record { bytes = bytes; tokens = suc n }) found >>= behind_sign nested (prefixed_at nested))
   taken_more n None bytes = refl
   taken_more n (Some found) bytes =
       let one = past_more n found.1 in
-      ap (λ after. option_map (sign_found found.0) after >>= behind_sign nested (prefixed_within nested n)) one
-      ∙ sym (ap (λ after. option_map (sign_found found.0) after >>= behind_sign nested (prefixed_at nested)) one)
+      ap (λ after. option_map (some_taken found.0) after >>= behind_sign nested (prefixed_within nested n)) one
+      ∙ sym (ap (λ after. option_map (some_taken found.0) after >>= behind_sign nested (prefixed_at nested)) one)
 
   is_within : (n : ℕ) (bytes : List ℕ) → prefixed_at nested (record { bytes = bytes; tokens = n }) ≡ (sign_taken (record { bytes = bytes; tokens = n }) >>= behind_sign nested (prefixed_at nested))
   unfolding prefixed_within sign_taken

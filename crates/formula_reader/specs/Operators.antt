@@ -4,7 +4,7 @@ use Rattle.calc_model.specs.Grammar.{op_level}
 use Rattle.calc_model.specs.declared.tree.Op.TheVariants.{Pow, Mul, Div, Add, Sub, Cat, Eq, Ne, Lt, Le, Gt, Ge}
 use Rattle.formula_reader.specs.declared.operators.Operator.{Operator}
 use Rattle.formula_reader.specs.declared.operators.Operator.TheVariants as operators
-use Rattle.formula_reader.specs.Unread.{Unread, beside, past}
+use Rattle.formula_reader.specs.Unread.{Unread, beside, taken_if}
 
 -- the operator that is one byte and no beginning of another
 abbrev pub single_operator : ℕ → Option Operator
@@ -45,14 +45,6 @@ abbrev pub up_to : ℕ → Option (Operator × List ℕ) → Option (Operator ×
 up_to level None = None
 up_to level (Some found) = if nat_le (level_of found.0) level then Some found else None
 
-abbrev pub beside_some : Operator → Unread → Option Operator × Unread
-beside_some operator unread = (Some operator, unread)
-
--- the operator is taken, if there is one
-abbrev pub taken_by : Unread → Option (Operator × List ℕ) → Option (Option Operator × Unread)
-taken_by unread None = Some (None, unread)
-taken_by unread (Some found) = option_map (beside_some found.0) (past unread.tokens found.1)
-
 -- the operator in front is taken, if its level is this or tighter
 unfoldable pub operator_taken : ℕ → Unread → Option (Option Operator × Unread)
-operator_taken level unread = taken_by unread (up_to level (operator_at unread.bytes))
+operator_taken level unread = taken_if unread (up_to level (operator_at unread.bytes))

@@ -1,26 +1,19 @@
 -- Prefix operators.
-use Rattle.std.specs.Prelude.{ℕ, ◌==◌, List, [], ◌∷◌, Option, Some, None, if◌then◌else◌, option_map}
+use Rattle.std.specs.Prelude.{ℕ, ◌==◌, List, [], ◌∷◌, Option, Some, None, if◌then◌else◌}
 use Rattle.calc_model.specs.declared.tree.Tree.{Tree}
 use Rattle.calc_model.specs.declared.tree.Tree.TheVariants as t
 use Rattle.formula_reader.specs.declared.signs.Sign.{Sign}
 use Rattle.formula_reader.specs.declared.signs.Sign.TheVariants as signs
-use Rattle.formula_reader.specs.Unread.{Read, Unread, past}
+use Rattle.formula_reader.specs.Unread.{Read, Unread, taken_if}
 
 -- the sign in front, and what stands behind it
 abbrev pub sign_at : List ℕ → Option (Sign × List ℕ)
 sign_at [] = None
 sign_at (byte ∷ rest) = if byte == 43 then Some (signs.Plus, rest) else (if byte == 45 then Some (signs.Minus, rest) else None)
 
-abbrev pub sign_found : Sign → Unread → Option Sign × Unread
-sign_found sign unread = (Some sign, unread)
-
-abbrev pub sign_by : Unread → Option (Sign × List ℕ) → Option (Option Sign × Unread)
-sign_by unread None = Some (None, unread)
-sign_by unread (Some found) = option_map (sign_found found.0) (past unread.tokens found.1)
-
 -- the sign in front is taken, if there is one
 unfoldable pub sign_taken : Unread → Option (Option Sign × Unread)
-sign_taken unread = sign_by unread (sign_at unread.bytes)
+sign_taken unread = taken_if unread (sign_at unread.bytes)
 
 -- a tree behind a sign
 abbrev pub signed_by : Sign → Tree → Tree

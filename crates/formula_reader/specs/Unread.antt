@@ -1,6 +1,6 @@
 -- What is left to read of a formula, and the steps over it. A step fails, with `None`, where the formula isn't
 -- spelled within the limits.
-use Rattle.std.specs.Prelude.{◌≡◌, ℕ, zero, suc, ◌-◌, ◌==◌, Bool, List, drop, Option, Some, None, Result, Ok, Err, if◌then◌else◌}
+use Rattle.std.specs.Prelude.{◌≡◌, ℕ, zero, suc, ◌-◌, ◌==◌, Bool, List, drop, Option, Some, None, Result, Ok, Err, option_map, if◌then◌else◌}
 use Rattle.byte_cuts.specs.Fronts.{begins, behind}
 use Rattle.calc_model.specs.Tokens.{is_blank}
 use Rattle.calc_model.specs.declared.tree.Tree.{Tree}
@@ -37,6 +37,14 @@ skip bytes = behind is_blank bytes
 -- A token is taken where these bytes stand behind it: it costs one, and the blanks behind it go with it.
 abbrev pub past : ℕ → List ℕ → Option Unread
 past tokens rest = if tokens == 0 then None else Some (record { bytes = skip rest; tokens = tokens - 1 })
+
+abbrev pub some_taken : {X : Type 0} → X → Unread → Option X × Unread
+some_taken x unread = (Some x, unread)
+
+-- what was found in front is taken as a token, if there is something
+abbrev pub taken_if : {X : Type 0} → Unread → Option (X × List ℕ) → Option (Option X × Unread)
+taken_if unread None = Some (None, unread)
+taken_if unread (Some found) = option_map (some_taken found.0) (past unread.tokens found.1)
 
 -- the first byte is this one
 abbrev pub next_is : ℕ → List ℕ → Bool

@@ -10,7 +10,7 @@ use Rattle.calc_model.specs.Tokens.{are_blanks, is_blank}
 use Rattle.calc_model.specs.declared.tree.Op.{Op}
 use Rattle.calc_model.specs.declared.tree.Op.TheVariants.{Pow, Mul, Div, Add, Sub, Cat, Eq, Ne, Lt, Le, Gt, Ge}
 use Rattle.formula_reader.specs.declared.operators.Operator.{Operator}
-use Rattle.formula_reader.specs.Operators.{beside_some, level_of, operator_at, operator_taken, taken_by, up_to}
+use Rattle.formula_reader.specs.Operators.{level_of, operator_at, operator_taken, up_to}
 use Rattle.byte_cuts.specs.Fronts.{begins}
 use Rattle.formula_reader.proofs.Complete.Leaves.{Follows, past-blanks, past-token, begins_other}
 use Rattle.formula_reader.proofs.Steps.{at, repeat_done, repeat_goes}
@@ -19,8 +19,8 @@ use Rattle.std.proofs.lemmas.List.{length-append}
 use Rattle.byte_cuts.proofs.Fronts.{begins-append}
 use Rattle.calc_model.specs.declared.tree.Tree.{Tree}
 use Rattle.formula_reader.specs.declared.signs.Sign.{Sign}
-use Rattle.formula_reader.specs.Signs.{sign_at, sign_by, sign_found, sign_read, sign_taken, signed_by}
-use Rattle.formula_reader.specs.Unread.{◌>>=◌, Read, Unread, repeat}
+use Rattle.formula_reader.specs.Signs.{sign_at, sign_read, sign_taken, signed_by}
+use Rattle.formula_reader.specs.Unread.{◌>>=◌, Read, Unread, repeat, some_taken, taken_if}
 use Rattle.formula_reader.specs.Operands.{Inside, arg_behind, args_at, comparison_at, infix_read, inside_at, more_args, more_made, operands_at, operator_behind, operators_behind, prefixed_at, primary_at, pushed}
 use Rattle.formula_reader.proofs.Complete.Beginnings.{behind_blanks, is_level_start, level_begins, level_no_blanks, primary_begins, primary_no_sign, some_begins}
 use Rattle.formula_reader.proofs.Turns.{operands_is, no_sign, one_sign, arg_stops, arg_token, args_first, operator_found, operator_stops}
@@ -82,20 +82,20 @@ up_to_none level (Some found) h = cond-false (nat_le (level_of found.0) level) _
 
 pub operator_none : (level : ℕ) (rest : List ℕ) (m : ℕ) → level < level_behind rest → operator_taken level (at rest m) ≡ Some (None, at rest m)
 unfolding operator_taken
-operator_none level rest m h = ap (taken_by (at rest m)) (up_to_none level (operator_at rest) h)
+operator_none level rest m h = ap (taken_if (at rest m)) (up_to_none level (operator_at rest) h)
 
 pub operator_infix : (op : Op) (level : ℕ) (blanks rest : List ℕ) (m n : ℕ) → op_level op ≤ level → n ≡ 1 + m → are_blanks blanks ≡ true → begins is_second (blanks ++ rest) ≡ false → begins is_blank rest ≡ false → operator_taken level (at (op_text op ++ (blanks ++ rest)) n) ≡ Some (Some (o.Infix op), at rest m)
 unfolding operator_taken
 operator_infix op level blanks rest m n within tokens all second clean =
-    ap (λ found. taken_by (at (op_text op ++ (blanks ++ rest)) n) (up_to level found)) (infix_in_front op (blanks ++ rest) second)
-    ∙ ap (taken_by (at (op_text op ++ (blanks ++ rest)) n)) (cond-true (nat_le (op_level op) level) _ _ (le-leb (op_level op) level within))
-    ∙ ap (option_map (beside_some (o.Infix op))) (past-blanks blanks rest m n tokens all clean)
+    ap (λ found. taken_if (at (op_text op ++ (blanks ++ rest)) n) (up_to level found)) (infix_in_front op (blanks ++ rest) second)
+    ∙ ap (taken_if (at (op_text op ++ (blanks ++ rest)) n)) (cond-true (nat_le (op_level op) level) _ _ (le-leb (op_level op) level within))
+    ∙ ap (option_map (some_taken (o.Infix op))) (past-blanks blanks rest m n tokens all clean)
 
 pub operator_percent : (level : ℕ) (blanks rest : List ℕ) (m n : ℕ) → 1 ≤ level → n ≡ 1 + m → are_blanks blanks ≡ true → Follows rest → operator_taken level (at (37 ∷ (blanks ++ rest)) n) ≡ Some (Some o.Percent, at rest m)
 unfolding operator_taken
 operator_percent level blanks rest m n within tokens all follows =
-    ap (taken_by (at (37 ∷ (blanks ++ rest)) n)) (cond-true (nat_le 1 level) _ _ (le-leb 1 level within))
-    ∙ ap (option_map (beside_some o.Percent)) (past-token blanks rest m n tokens all follows)
+    ap (taken_if (at (37 ∷ (blanks ++ rest)) n)) (cond-true (nat_le 1 level) _ _ (le-leb 1 level within))
+    ∙ ap (option_map (some_taken o.Percent)) (past-token blanks rest m n tokens all follows)
 
 -- the text in front of the rest is read as the tree, and costs its tokens
 abbrev pub Reads : (Unread → Read) → List ℕ → Tree → List ℕ → ℕ → Type 0
@@ -189,11 +189,11 @@ percent_runs nested level blanks text rest x m claim all within follows =
 sign_found_at : (sign : Sign) (byte : ℕ) (blanks rest : List ℕ) (m n : ℕ) → sign_at (byte ∷ (blanks ++ rest)) ≡ Some (sign, blanks ++ rest) → n ≡ 1 + m → are_blanks blanks ≡ true → begins is_blank rest ≡ false → sign_taken (at (byte ∷ (blanks ++ rest)) n) ≡ Some (Some sign, at rest m)
 unfolding sign_taken
 sign_found_at sign byte blanks rest m n is tokens all clean =
-    ap (sign_by (at (byte ∷ (blanks ++ rest)) n)) is ∙ ap (option_map (sign_found sign)) (past-blanks blanks rest m n tokens all clean)
+    ap (taken_if (at (byte ∷ (blanks ++ rest)) n)) is ∙ ap (option_map (some_taken sign)) (past-blanks blanks rest m n tokens all clean)
 
 sign_none_at : (bytes : List ℕ) (n : ℕ) → sign_at bytes ≡ None → sign_taken (at bytes n) ≡ Some (None, at bytes n)
 unfolding sign_taken
-sign_none_at bytes n e = ap (sign_by (at bytes n)) e
+sign_none_at bytes n e = ap (taken_if (at bytes n)) e
 
 -- a sign in front of what is read
 sign_reads : (nested : Inside) (sign : Sign) (byte : ℕ) (blanks text rest : List ℕ) (x : Tree) (m n : ℕ) → ((rest : List ℕ) → sign_at (byte ∷ rest) ≡ Some (sign, rest)) → n ≡ 1 + (tokens_of x + m) → are_blanks blanks ≡ true → begins is_level_start text ≡ true → Reads (prefixed_at nested) text x rest m → prefixed_at nested (at (byte ∷ ((blanks ++ text) ++ rest)) n) ≡ Some (signed_by sign x, at rest m)

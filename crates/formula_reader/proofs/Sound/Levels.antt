@@ -10,15 +10,15 @@ use Rattle.calc_model.proofs.GrammarLevels.{level_some, loosened}
 use Rattle.calc_model.specs.Grammar.{op_text, IsLevel, minus, op_level, operated, percent, plus}
 use Rattle.calc_model.specs.declared.tree.Op.TheVariants.{Pow, Mul, Div, Add, Sub, Cat, Eq}
 use Rattle.formula_reader.specs.declared.operators.Operator.{Operator}
-use Rattle.formula_reader.specs.Unread.{Unread, beside, past, Read}
-use Rattle.formula_reader.specs.Operators.{beside_some, greater_at, less_at, level_of, operator_at, operator_taken, single_operator, taken_by, up_to}
-use Rattle.formula_reader.proofs.Steps.{Past, either, map_some, past_says, bind_some, repeat_says}
+use Rattle.formula_reader.specs.Unread.{Unread, beside, Read}
+use Rattle.formula_reader.specs.Operators.{greater_at, less_at, level_of, operator_at, operator_taken, single_operator, up_to}
+use Rattle.formula_reader.proofs.Steps.{Past, either, map_some, bind_some, repeat_says, taken_some, taken_none, some_or}
 use Rattle.formula_reader.proofs.Complete.Levels.{level_behind, level_found}
 use Rattle.calc_model.specs.Tokens.{are_blanks}
 use Rattle.calc_model.specs.declared.tree.Op.{Op}
 use Rattle.calc_model.specs.declared.tree.Tree.{Tree}
 use Rattle.formula_reader.specs.declared.signs.Sign.{Sign}
-use Rattle.formula_reader.specs.Signs.{sign_at, sign_by, sign_found, sign_read, sign_taken, signed_by}
+use Rattle.formula_reader.specs.Signs.{sign_at, sign_read, sign_taken, signed_by}
 use Rattle.formula_reader.specs.Operands.{Inside, attached, attached_by, behind_sign, comparison_at, infix_read, inside_at, more_made, operands_at, operator_behind, operators_behind, prefixed_at, prefixed_within, primary_at}
 use Rattle.formula_reader.proofs.Turns.{operands_is}
 use Rattle.formula_reader.proofs.Sound.Primaries.{Sound, Spelled, operator_joined, primary_sound}
@@ -84,48 +84,39 @@ pub record Taken (level : ℕ) (unread : Unread) (operator : Operator) (after : 
   pub within : level_of operator ≤ level
   pub here : level_behind unread.bytes ≡ level_of operator
 
-taken_found : (level : ℕ) (unread after : Unread) (operator : Operator) (found : Operator × List ℕ) (b : Bool) → operator_at unread.bytes ≡ Some found → nat_le (level_of found.0) level ≡ b → taken_by unread (cond b (Some found) None) ≡ Some (Some operator, after) → Taken level unread operator after
-taken_found level unread after operator found false e less h = let none = (some_pair_parts None (Some operator) unread after h).0 in cc
-taken_found level unread after operator found true e less h =
-    let made = map_some (beside_some found.0) (past unread.tokens found.1) (Some operator, after) h in
-    let same : found.0 ≡ operator = same_Some found.0 operator (ap (λ (r : Option Operator × Unread). r.0) made.2) in
-    let last : made.0 ≡ after = ap (λ (r : Option Operator × Unread). r.1) made.2 in
-    record {
-      rest = found.1;
-      joined = operator_says unread.bytes found e ∙ ap (λ f. operator_text f ++ found.1) same;
-      passed = subst (Past unread.tokens found.1) last (past_says unread.tokens found.1 made.0 made.1);
-      within = subst (λ f. level_of f ≤ level) same (leb-true (level_of found.0) level less);
-      here = ap level_found e ∙ ap level_of same;
-    }
-
-taken_some : (level : ℕ) (unread after : Unread) (operator : Operator) (found : Option (Operator × List ℕ)) → operator_at unread.bytes ≡ found → taken_by unread (up_to level found) ≡ Some (Some operator, after) → Taken level unread operator after
-taken_some level unread after operator None e h = let none = (some_pair_parts None (Some operator) unread after h).0 in cc
-taken_some level unread after operator (Some found) e h = taken_found level unread after operator found (nat_le (level_of found.0) level) e refl h
+up_some : (level : ℕ) (o : Option (Operator × List ℕ)) (found : Operator × List ℕ) → up_to level o ≡ Some found → (o ≡ Some found) × (level_of found.0 ≤ level)
+up_some level None found h = cc
+up_some level (Some first) found h =
+    let parts = some_or (nat_le (level_of first.0) level) (Some first) found h in
+    (parts.1, subst (λ (f : Operator × List ℕ). level_of f.0 ≤ level) (same_Some first found parts.1) (leb-true (level_of first.0) level parts.0))
 
 pub taken_says : (level : ℕ) (unread after : Unread) (operator : Operator) → operator_taken level unread ≡ Some (Some operator, after) → Taken level unread operator after
 unfolding operator_taken
-taken_says level unread after operator h = taken_some level unread after operator (operator_at unread.bytes) refl h
+taken_says level unread after operator h =
+    let taken = taken_some unread after operator (up_to level (operator_at unread.bytes)) h in
+    let up = up_some level (operator_at unread.bytes) (operator, taken.rest) taken.is in
+    record {
+      rest = taken.rest;
+      joined = operator_says unread.bytes (operator, taken.rest) up.0;
+      passed = taken.passed;
+      within = up.1;
+      here = ap level_found up.0;
+    }
 
 -- where none is taken
-none_found : (level : ℕ) (unread after : Unread) (found : Operator × List ℕ) (b : Bool) → operator_at unread.bytes ≡ Some found → nat_le (level_of found.0) level ≡ b → taken_by unread (cond b (Some found) None) ≡ Some (None, after) → (unread ≡ after) × (level < level_behind unread.bytes)
-none_found level unread after found true e less h =
-    let made = map_some (beside_some found.0) (past unread.tokens found.1) (None, after) h in
-    let some : Some found.0 ≡ None = ap (λ (r : Option Operator × Unread). r.0) made.2 in
-    cc
-none_found level unread after found false e less h =
-    let tighter = leb-false (level_of found.0) level less in
-    let here = ap level_found e in
-    ((some_pair_parts None None unread after h).1, subst (λ n. level < n) (sym here) tighter)
-
-none_some : (level : ℕ) (unread after : Unread) (found : Option (Operator × List ℕ)) → level ≤ 6 → operator_at unread.bytes ≡ found → taken_by unread (up_to level found) ≡ Some (None, after) → (unread ≡ after) × (level < level_behind unread.bytes)
-none_some level unread after None most e h =
-    let seven : level < 7 = omega arith in
-    ((some_pair_parts None None unread after h).1, subst (λ n. level < n) (sym (ap level_found e)) seven)
-none_some level unread after (Some found) most e h = none_found level unread after found (nat_le (level_of found.0) level) e refl h
+up_none : (level : ℕ) (o : Option (Operator × List ℕ)) → level ≤ 6 → up_to level o ≡ None → level < level_found o
+up_none level None most h = omega arith
+up_none level (Some found) most h = by_level (nat_le (level_of found.0) level) refl h
+  where
+    by_level : (b : Bool) → nat_le (level_of found.0) level ≡ b → cond b (Some found) None ≡ None → level < level_of found.0
+    by_level true e k = cc
+    by_level false e k = leb-false (level_of found.0) level e
 
 pub none_says : (level : ℕ) (unread after : Unread) → level ≤ 6 → operator_taken level unread ≡ Some (None, after) → (unread ≡ after) × (level < level_behind unread.bytes)
 unfolding operator_taken
-none_says level unread after most h = none_some level unread after (operator_at unread.bytes) most refl h
+none_says level unread after most h =
+    let none = taken_none unread after (up_to level (operator_at unread.bytes)) h in
+    (none.1, up_none level (operator_at unread.bytes) most none.0)
 
 found_level : (o : Option (Operator × List ℕ)) → 1 ≤ level_found o
 found_level None = omega arith
@@ -164,22 +155,12 @@ abbrev SignCase : Unread → Option Sign → Unread → Type 0
 SignCase unread None after = unread ≡ after
 SignCase unread (Some sign) after = Signed unread sign after
 
-sign_case : (unread after : Unread) (sign : Option Sign) (found : Option (Sign × List ℕ)) → sign_at unread.bytes ≡ found → sign_by unread found ≡ Some (sign, after) → SignCase unread sign after
-sign_case unread after sign None e h =
-    let parts = some_pair_parts None sign unread after h in
-    subst (λ s. SignCase unread s after) parts.0 parts.1
-sign_case unread after sign (Some found) e h =
-    let made = map_some (sign_found found.0) (past unread.tokens found.1) (sign, after) h in
-    let signed : Signed unread found.0 made.0 = record {
-      rest = found.1;
-      joined = sign_in unread.bytes found.1 found.0 e;
-      passed = past_says unread.tokens found.1 made.0 made.1;
-    } in
-    subst (λ (r : Option Sign × Unread). SignCase unread r.0 r.1) made.2 signed
-
-taken_case : (unread after : Unread) (sign : Option Sign) → sign_taken unread ≡ Some (sign, after) → SignCase unread sign after
+sign_case : (unread after : Unread) (sign : Option Sign) → sign_taken unread ≡ Some (sign, after) → SignCase unread sign after
 unfolding sign_taken
-taken_case unread after sign h = sign_case unread after sign (sign_at unread.bytes) refl h
+sign_case unread after None h = (taken_none unread after (sign_at unread.bytes) h).1
+sign_case unread after (Some sign) h =
+    let taken = taken_some unread after sign (sign_at unread.bytes) h in
+    record { rest = taken.rest; joined = sign_in unread.bytes taken.rest sign taken.is; passed = taken.passed }
 
 -- the counts of a tree behind a sign, and that it stands behind it
 sign_counts : (sign : Sign) (x : Tree) → OneMore (signed_by sign x) x
@@ -216,10 +197,10 @@ module _ (others : ℕ) (nested : Inside) (depth : ℕ) (sound : Sound others ne
   unfolding prefixed_within
   within_sound zero unread read h =
       let first = bind_some (sign_taken unread) (behind_sign nested (λ rest. None)) read h in
-      behind_sound (λ rest. None) (λ u r none. cc) unread first.0.1 first.0.0 read (taken_case unread first.0.1 first.0.0 first.1) first.2
+      behind_sound (λ rest. None) (λ u r none. cc) unread first.0.1 first.0.0 read (sign_case unread first.0.1 first.0.0 first.1) first.2
   within_sound (suc n) unread read h =
       let first = bind_some (sign_taken unread) (behind_sign nested (prefixed_within nested n)) read h in
-      behind_sound (prefixed_within nested n) (within_sound n) unread first.0.1 first.0.0 read (taken_case unread first.0.1 first.0.0 first.1) first.2
+      behind_sound (prefixed_within nested n) (within_sound n) unread first.0.1 first.0.0 read (sign_case unread first.0.1 first.0.0 first.1) first.2
 
   -- What is read up to a level is spelled so, and no operator up to the level is behind it that a token is left for.
   record UpTo (level : ℕ) (unread : Unread) (x : Tree) (after : Unread) : Type 0 where
