@@ -18,30 +18,23 @@ loosened text x (suc k) level within is =
       | inr below ↦ looser (loosened text x k level below is)
     ]
 
+-- what holds of each infix operator
+pub each_op : (P : Op → Type 0) → P Pow → P Mul → P Div → P Add → P Sub → P Cat → P Eq → P Ne → P Lt → P Le → P Gt → P Ge → (op : Op) → P op
+each_op P pow mul div add sub cat eq ne lt le gt ge Pow = pow
+each_op P pow mul div add sub cat eq ne lt le gt ge Mul = mul
+each_op P pow mul div add sub cat eq ne lt le gt ge Div = div
+each_op P pow mul div add sub cat eq ne lt le gt ge Add = add
+each_op P pow mul div add sub cat eq ne lt le gt ge Sub = sub
+each_op P pow mul div add sub cat eq ne lt le gt ge Cat = cat
+each_op P pow mul div add sub cat eq ne lt le gt ge Eq = eq
+each_op P pow mul div add sub cat eq ne lt le gt ge Ne = ne
+each_op P pow mul div add sub cat eq ne lt le gt ge Lt = lt
+each_op P pow mul div add sub cat eq ne lt le gt ge Le = le
+each_op P pow mul div add sub cat eq ne lt le gt ge Gt = gt
+each_op P pow mul div add sub cat eq ne lt le gt ge Ge = ge
+
 pub level_most : (op : Op) → op_level op ≤ 6
-level_most Pow = omega arith
-level_most Mul = omega arith
-level_most Div = omega arith
-level_most Add = omega arith
-level_most Sub = omega arith
-level_most Cat = omega arith
-level_most Eq = omega arith
-level_most Ne = omega arith
-level_most Lt = omega arith
-level_most Le = omega arith
-level_most Gt = omega arith
-level_most Ge = omega arith
+level_most = each_op (λ op. op_level op ≤ 6) (omega arith) (omega arith) (omega arith) (omega arith) (omega arith) (omega arith) (omega arith) (omega arith) (omega arith) (omega arith) (omega arith) (omega arith)
 
 pub level_some : (op : Op) → op_level op ≡ suc (op_level op - 1)
-level_some Pow = refl
-level_some Mul = refl
-level_some Div = refl
-level_some Add = refl
-level_some Sub = refl
-level_some Cat = refl
-level_some Eq = refl
-level_some Ne = refl
-level_some Lt = refl
-level_some Le = refl
-level_some Gt = refl
-level_some Ge = refl
+level_some = each_op (λ op. op_level op ≡ suc (op_level op - 1)) refl refl refl refl refl refl refl refl refl refl refl refl

@@ -1,14 +1,12 @@
 -- The pieces that are printed without a blank are pieces of their levels.
-use Rattle.std.proofs.Common.{◌≡◌, ℕ, zero, suc, ◌-◌, ◌≤◌, true, List, [], ◌∷◌, ◌++◌, map, refl, sym, ap, ◌∙◌, subst, inl, inr, arith, append_assoc}
+use Rattle.std.proofs.Common.{◌≡◌, ℕ, suc, ◌-◌, true, List, [], ◌∷◌, ◌++◌, map, refl, sym, ap, ◌∙◌, subst, append_assoc}
 use Rattle.std.specs.Prelude.{codes}
 use Rattle.std.specs.List.{AllByRecursion, join_with_byte}
-use Rattle.std.proofs.lemmas.Bool.{cases_lt}
 use Rattle.std.proofs.lemmas.List.{append-nil}
 use Rattle.calc_model.specs.declared.tree.Op.{Op}
-use Rattle.calc_model.specs.declared.tree.Op.TheVariants.{Pow, Mul, Div, Add, Sub, Cat, Eq, Ne, Lt, Le, Gt, Ge}
 use Rattle.calc_model.specs.declared.tree.Tree.{Tree}
 use Rattle.calc_model.specs.declared.tree.Tree.TheVariants as t
-use Rattle.calc_model.specs.Grammar.{in_capitals, op_level, op_text, IsPrimary, IsLevel, AreArgs, AreSomeArgs, call, looser, minus, more, none, one, operated, parenthesis, percent, plus, primary, some}
+use Rattle.calc_model.specs.Grammar.{in_capitals, op_level, op_text, IsPrimary, IsLevel, AreArgs, AreSomeArgs, call, minus, more, none, one, operated, parenthesis, percent, plus, primary, some}
 use Rattle.calc_model.specs.Tokens.{is_identifier}
 use Rattle.calc_model.proofs.GrammarLevels.{level_some}
 

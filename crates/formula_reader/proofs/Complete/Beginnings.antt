@@ -13,13 +13,12 @@ use Rattle.calc_model.specs.Grammar.{AreSomeArgs, IsOperand, IsPrimary, IsLevel,
 use Rattle.calc_model.specs.Tokens.{are_blanks, begins_identifier, has_identifier_bytes, is_blank, is_identifier, is_in_identifier}
 use Rattle.calc_model.specs.ValueTexts.{fault_text}
 use Rattle.calc_model.specs.declared.fault.Fault.{Fault}
-use Rattle.calc_model.specs.declared.fault.Fault.TheVariants.{NA, DivZero, BadValue, BadRef, BadName, BadNum, Null, Over, Syntax, Circular}
 use Rattle.calc_model.specs.declared.tree.Tree.{Tree}
 use Rattle.formula_reader.specs.Leaves.{number_tree}
 use Rattle.formula_reader.specs.Signs.{sign_at}
 use Rattle.byte_cuts.specs.Fronts.{begins}
 use Rattle.byte_cuts.proofs.Fronts.{begins-append}
-use Rattle.formula_reader.proofs.Complete.Leaves.{begins_other, no_sign_behind, read_unsigned}
+use Rattle.formula_reader.proofs.Complete.Leaves.{begins_other, each_error, no_sign_behind, read_unsigned}
 use Rattle.formula_reader.proofs.Steps.{none_or}
 use Rattle.formula_reader.proofs.Identifiers.{name_is_identifier}
 
@@ -90,16 +89,7 @@ identifier_start : (byte : ℕ) → begins_identifier byte ≡ true → is_start
 identifier_start byte h = or_right _ (begins_identifier byte) h
 
 error_begins : (fault : Fault) → is_error_constant fault ≡ true → begins is_start (fault_text fault) ≡ true
-error_begins NA h = refl
-error_begins DivZero h = refl
-error_begins BadValue h = refl
-error_begins BadRef h = refl
-error_begins BadName h = refl
-error_begins BadNum h = refl
-error_begins Null h = refl
-error_begins Over h = refl
-error_begins Syntax h = cc
-error_begins Circular h = cc
+error_begins fault h = each_error (λ f. begins is_start (fault_text f) ≡ true) refl refl refl refl refl refl refl refl fault h
 
 operand_begins : {text : List ℕ} {x : Tree} → IsOperand text x → begins is_start text ≡ true
 operand_begins (number text n s r) = begins_more is_number_start is_start text number_start (number_begins text _ s (ap number_tree r))

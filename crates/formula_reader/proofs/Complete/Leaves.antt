@@ -191,17 +191,21 @@ number_in_front text rest x stops sign e =
     ∙ ap (λ t. option_map (beside t) (number_tree (reading text))) back
     ∙ ap (option_map (beside rest)) e
 
+-- what holds of each error constant
+pub each_error : (P : Fault → Type 0) → P NA → P DivZero → P BadValue → P BadRef → P BadName → P BadNum → P Null → P Over → (fault : Fault) → is_error_constant fault ≡ true → P fault
+each_error P na div_zero value ref name num null over NA h = na
+each_error P na div_zero value ref name num null over DivZero h = div_zero
+each_error P na div_zero value ref name num null over BadValue h = value
+each_error P na div_zero value ref name num null over BadRef h = ref
+each_error P na div_zero value ref name num null over BadName h = name
+each_error P na div_zero value ref name num null over BadNum h = num
+each_error P na div_zero value ref name num null over Null h = null
+each_error P na div_zero value ref name num null over Over h = over
+each_error P na div_zero value ref name num null over Syntax h = cc
+each_error P na div_zero value ref name num null over Circular h = cc
+
 pub error_in_front : (fault : Fault) (rest : List ℕ) → is_error_constant fault ≡ true → error_at (fault_text fault ++ rest) ≡ Some (t.Bad fault, rest)
-error_in_front NA rest h = refl
-error_in_front DivZero rest h = refl
-error_in_front BadValue rest h = refl
-error_in_front BadRef rest h = refl
-error_in_front BadName rest h = refl
-error_in_front BadNum rest h = refl
-error_in_front Null rest h = refl
-error_in_front Over rest h = refl
-error_in_front Syntax rest h = cc
-error_in_front Circular rest h = cc
+error_in_front fault rest h = each_error (λ f. error_at (fault_text f ++ rest) ≡ Some (t.Bad f, rest)) refl refl refl refl refl refl refl refl fault h
 
 stop_no_quote : (byte : ℕ) → is_no_stop byte ≡ false → is_quote byte ≡ false
 stop_no_quote byte h = grind (arith, nat_tests)

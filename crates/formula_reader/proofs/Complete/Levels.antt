@@ -5,6 +5,7 @@ use Rattle.formula_reader.specs.declared.signs.Sign.TheVariants as signs
 use Rattle.std.proofs.Common.{◌≡◌, ◌<◌, ◌≤◌, ◌+◌, ℕ, nat_le, Bool, true, false, ◌||◌, List, [], ◌∷◌, ◌++◌, Option, Some, None, refl, ap, ◌∙◌, arith, ◌-◌, zero, suc, length, sym, append_assoc, lit<}
 use Rattle.std.specs.Prelude.{◌==◌, option_map}
 use Rattle.std.proofs.lemmas.Bool.{cond-false, cond-true, le-leb, lt-leb, or_parts, lt-ltb}
+use Rattle.calc_model.proofs.GrammarLevels.{each_op}
 use Rattle.calc_model.specs.Grammar.{op_level, op_text, AreArgs, AreSomeArgs, IsPrimary, IsLevel, call, in_capitals, looser, minus, more, none, one, operand, operated, parenthesis, percent, plus, primary, some}
 use Rattle.calc_model.specs.Tokens.{are_blanks, is_blank}
 use Rattle.calc_model.specs.declared.tree.Op.{Op}
@@ -60,18 +61,7 @@ infix_in_front Gt (byte ∷ rest) h =
 infix_in_front Ge rest h = refl
 
 pub Follows-infix : (op : Op) (rest : List ℕ) → Follows (op_text op ++ rest)
-Follows-infix Pow rest = refl
-Follows-infix Mul rest = refl
-Follows-infix Div rest = refl
-Follows-infix Add rest = refl
-Follows-infix Sub rest = refl
-Follows-infix Cat rest = refl
-Follows-infix Eq rest = refl
-Follows-infix Ne rest = refl
-Follows-infix Lt rest = refl
-Follows-infix Le rest = refl
-Follows-infix Gt rest = refl
-Follows-infix Ge rest = refl
+Follows-infix op rest = each_op (λ o. Follows (op_text o ++ rest)) refl refl refl refl refl refl refl refl refl refl refl refl op
 
 pub level_behind-infix : (op : Op) (rest : List ℕ) → begins is_second rest ≡ false → level_behind (op_text op ++ rest) ≡ op_level op
 level_behind-infix op rest h = ap level_found (infix_in_front op rest h)

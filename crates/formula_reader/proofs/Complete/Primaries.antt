@@ -12,14 +12,14 @@ use Rattle.calc_model.specs.Tokens.{are_blanks, begins_identifier, is_blank, is_
 use Rattle.calc_model.specs.ValueTexts.{fault_text}
 use Rattle.calc_model.specs.Contents.{is_error_constant}
 use Rattle.calc_model.specs.declared.fault.Fault.{Fault}
-use Rattle.calc_model.specs.declared.fault.Fault.TheVariants.{NA, DivZero, BadValue, BadRef, BadName, BadNum, Null, Over, Syntax, Circular}
+use Rattle.calc_model.specs.declared.fault.Fault.TheVariants.{Over}
 use Rattle.calc_model.specs.declared.tree.Tree.{Tree}
 use Rattle.formula_reader.specs.declared.operands.Start.TheVariants.{Operand, Word}
 use Rattle.formula_reader.specs.Leaves.{error_at, number_at, number_tree, operand_at, token_taken}
 use Rattle.formula_reader.specs.Unread.{◌>>=◌, Unread, beside, next_is, past}
 use Rattle.formula_reader.specs.Operands.{Inside, args_at, call_node, closed, primary_at, primary_by, start_of, word_behind}
 use Rattle.formula_reader.proofs.Complete.Beginnings.{behind_blanks, identifier_begins, identifier_bytes, is_number_start, number_begins}
-use Rattle.formula_reader.proofs.Complete.Leaves.{error_in_front, Follows, Stops, Stops-append, is_no_stop, past-blanks, past-token, number_in_front, quoted_parts, string_in_front, bracketed_parts, reference_in_front}
+use Rattle.formula_reader.proofs.Complete.Leaves.{each_error, error_in_front, Follows, Stops, Stops-append, is_no_stop, past-blanks, past-token, number_in_front, quoted_parts, string_in_front, bracketed_parts, reference_in_front}
 use Rattle.byte_cuts.specs.Fronts.{begins}
 use Rattle.byte_cuts.proofs.Fronts.{begins-append, begins_less, behind-all, take_while-all}
 use Rattle.formula_reader.proofs.Steps.{at}
@@ -60,16 +60,8 @@ number_operand text rest x stops sign e =
     record { starts = starts.0; reads = starts.1 ∙ number_in_front text rest x stops sign e }
 
 error_starts : (fault : Fault) (rest : List ℕ) → is_error_constant fault ≡ true → (start_of (fault_text fault ++ rest) ≡ Operand) × (operand_at (fault_text fault ++ rest) ≡ error_at (fault_text fault ++ rest))
-error_starts NA rest h = (refl, refl)
-error_starts DivZero rest h = (refl, refl)
-error_starts BadValue rest h = (refl, refl)
-error_starts BadRef rest h = (refl, refl)
-error_starts BadName rest h = (refl, refl)
-error_starts BadNum rest h = (refl, refl)
-error_starts Null rest h = (refl, refl)
-error_starts Over rest h = (refl, refl)
-error_starts Syntax rest h = cc
-error_starts Circular rest h = cc
+error_starts fault rest h = each_error (λ f. (start_of (fault_text f ++ rest) ≡ Operand) × (operand_at (fault_text f ++ rest) ≡ error_at (fault_text f ++ rest)))
+    (refl, refl) (refl, refl) (refl, refl) (refl, refl) (refl, refl) (refl, refl) (refl, refl) (refl, refl) fault h
 
 identifier_no_parenthesis : (byte : ℕ) → begins_identifier byte ≡ true → (byte == 40) ≡ false
 identifier_no_parenthesis byte h = grind (arith, nat_tests)
