@@ -15,3 +15,4 @@ mod StepExamples
 mod StaleExamples
 pub mod Reached
 pub mod BooksKept
+pub mod GrammarLevels

@@ -2,7 +2,7 @@ mod Examples
 pub mod Growing
 pub mod Joining
 pub mod PrintedOperands
-pub mod PrintedRows
+pub mod PrintedPieces
 pub mod PrintedTrees
 pub mod Quotes
 pub mod SpelledTrees

@@ -43,9 +43,9 @@ printed_bracket r valid =
     let is = tested-valid r valid in
     reference (printed_reference r) r (references_read_back r is.lies is.spelled)
 
--- an operand is of the tightest row
-pub row_of_operand : (text : List ℕ) (x : Tree) → IsOperand text x → IsLevel 0 text x
-row_of_operand text x is =
+-- an operand is of the tightest level
+pub level_of_operand : (text : List ℕ) (x : Tree) → IsOperand text x → IsLevel 0 text x
+level_of_operand text x is =
     let Spelled : List ℕ → Type 0 = λ bytes. IsPrimary bytes x in
     primary (subst Spelled (append-nil text) (operand [] is refl))
 

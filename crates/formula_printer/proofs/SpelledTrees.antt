@@ -15,11 +15,12 @@ use Rattle.calc_model.specs.Tokens.{has_no_small_letter, is_identifier, quoted}
 use Rattle.calc_model.specs.ValueTexts.{fault_text}
 use Rattle.calc_model.proofs.TreeFolds as fold
 use Rattle.calc_model.proofs.TreeInduction.{tree_ind}
-use Rattle.formula_printer.proofs.PrintedOperands.{in_capitals-same, printed_bracket, printed_number, row_of_operand}
+use Rattle.formula_printer.proofs.PrintedOperands.{in_capitals-same, printed_bracket, printed_number, level_of_operand}
 use Rattle.formula_printer.proofs.PrintedTrees.{printed_tree-Binary, printed_tree-Bad, printed_tree-Call, printed_tree-Minus, printed_tree-Name, printed_tree-Number, printed_tree-Paren, printed_tree-Percent, printed_tree-Plus, printed_tree-Ref, printed_tree-Words}
-use Rattle.formula_printer.proofs.PrintedRows.{AreComparisons, loosened, op_level-most, printed_args, printed_binary, printed_call, printed_minus, printed_parenthesis, printed_percent, printed_plus}
+use Rattle.calc_model.proofs.GrammarLevels.{level_most, loosened}
+use Rattle.formula_printer.proofs.PrintedPieces.{AreComparisons, printed_args, printed_binary, printed_call, printed_minus, printed_parenthesis, printed_percent, printed_plus}
 
--- a tree of this form has a row, and where it is formed, the text spells it there
+-- a tree of this form has a level, and where it is formed, the text spells it there
 record IsPlaced (form : Form) (text : List ℕ) (x : Tree) : Type 0 where
   most : form.level ≤ 6
   spelled : form.formed ≡ true → IsLevel form.level text x
@@ -27,7 +28,7 @@ record IsPlaced (form : Form) (text : List ℕ) (x : Tree) : Type 0 where
 abbrev Placed : Tree → Type 0
 Placed x = IsPlaced (form_of x) (printed_tree x) x
 
--- in a place that allows the row
+-- in a place that allows the level
 in_place : (k : ℕ) (x : Tree) → Placed x → stands_within k (form_of x) ≡ true → IsLevel k (printed_tree x) x
 in_place k x is formed =
     let form = form_of x in
@@ -64,18 +65,18 @@ placed_call n args each =
 placed_binary : (op : Op) (x y : Tree) → Placed x → Placed y → Placed (t.Binary op x y)
 placed_binary op x y left right =
     let formed = stands_within (op_level op) (form_of x) && stands_within (op_level op - 1) (form_of y) in
-    placed (t.Binary op x y) (record { level = op_level op; formed = formed }) (printed_tree x ++ op_text op ++ printed_tree y) (fold.at-Binary Form form_step op x y) (printed_tree-Binary op x y) (op_level-most op)
+    placed (t.Binary op x y) (record { level = op_level op; formed = formed }) (printed_tree x ++ op_text op ++ printed_tree y) (fold.at-Binary Form form_step op x y) (printed_tree-Binary op x y) (level_most op)
     (λ allowed.
     let parts = and_parts (stands_within (op_level op) (form_of x)) (stands_within (op_level op - 1) (form_of y)) allowed in
     printed_binary op (printed_tree x) (printed_tree y) x y (in_place (op_level op) x left parts.0) (in_place (op_level op - 1) y right parts.1))
 
 every_placed : (x : Tree) → Placed x
 every_placed = tree_ind Placed record {
-  number = λ n. at_tightest (t.Number n) _ (printed n) (fold.at-Number Form form_step n) (printed_tree-Number n) (λ allowed. row_of_operand (printed n) (t.Number n) (printed_number n allowed));
-  words = λ text. at_tightest (t.Words text) _ (quoted text) (fold.at-Words Form form_step text) (printed_tree-Words text) (λ allowed. row_of_operand (quoted text) (t.Words text) (string text allowed));
-  bad = λ fault. at_tightest (t.Bad fault) _ (fault_text fault) (fold.at-Bad Form form_step fault) (printed_tree-Bad fault) (λ allowed. row_of_operand (fault_text fault) (t.Bad fault) (error fault allowed));
-  reference = λ r. at_tightest (t.Ref r) _ (codes "[" ++ printed_reference r ++ codes "]") (fold.at-Ref Form form_step r) (printed_tree-Ref r) (λ allowed. row_of_operand (codes "[" ++ printed_reference r ++ codes "]") (t.Ref r) (printed_bracket r allowed));
-  name = λ text. at_tightest (t.Name text) _ text (fold.at-Name Form form_step text) (printed_tree-Name text) (λ allowed. row_of_operand text (t.Name text) (name text allowed));
+  number = λ n. at_tightest (t.Number n) _ (printed n) (fold.at-Number Form form_step n) (printed_tree-Number n) (λ allowed. level_of_operand (printed n) (t.Number n) (printed_number n allowed));
+  words = λ text. at_tightest (t.Words text) _ (quoted text) (fold.at-Words Form form_step text) (printed_tree-Words text) (λ allowed. level_of_operand (quoted text) (t.Words text) (string text allowed));
+  bad = λ fault. at_tightest (t.Bad fault) _ (fault_text fault) (fold.at-Bad Form form_step fault) (printed_tree-Bad fault) (λ allowed. level_of_operand (fault_text fault) (t.Bad fault) (error fault allowed));
+  reference = λ r. at_tightest (t.Ref r) _ (codes "[" ++ printed_reference r ++ codes "]") (fold.at-Ref Form form_step r) (printed_tree-Ref r) (λ allowed. level_of_operand (codes "[" ++ printed_reference r ++ codes "]") (t.Ref r) (printed_bracket r allowed));
+  name = λ text. at_tightest (t.Name text) _ text (fold.at-Name Form form_step text) (printed_tree-Name text) (λ allowed. level_of_operand text (t.Name text) (name text allowed));
   call = placed_call;
   paren = λ x is. at_tightest (t.Paren x) (stands_within 6 (form_of x)) (codes "(" ++ printed_tree x ++ codes ")") (fold.at-Paren Form form_step x) (printed_tree-Paren x) (λ allowed. printed_parenthesis (printed_tree x) x (in_place 6 x is allowed));
   plus = λ x is. at_tightest (t.Plus x) (stands_within 0 (form_of x)) (codes "+" ++ printed_tree x) (fold.at-Plus Form form_step x) (printed_tree-Plus x) (λ allowed. printed_plus (printed_tree x) x (in_place 0 x is allowed));

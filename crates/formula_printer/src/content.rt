@@ -21,7 +21,8 @@ pub fn print_content(content: &Content, out: &mut Vec<u8>) -> Result<(), NoMemor
 }
 
 fn print_formula(tree: &Tree, out: &mut Vec<u8>) -> Result<(), NoMemory>
-    ensures ok { OnOk result (out.new.items ≡ out.old.items ++ (codes "=" ++ printed_tree tree.now)) }
+    ensures ok { OnOk result (out.new.items
+        ≡ out.old.items ++ (codes "=" ++ printed_tree tree.now)) }
     ensures err { OnErr result (out.new.items ≡ out.old.items) }
 {
     let before = out.len();
@@ -36,7 +37,8 @@ fn print_formula(tree: &Tree, out: &mut Vec<u8>) -> Result<(), NoMemory>
 
 /// Appends the printed text of a formula. Where memory is refused, `out` has gained a part of it.
 fn print_begun(tree: &Tree, out: &mut Vec<u8>) -> Result<(), NoMemory>
-    ensures ok { OnOk result (out.new.items ≡ out.old.items ++ (codes "=" ++ printed_tree tree.now)) }
+    ensures ok { OnOk result (out.new.items
+        ≡ out.old.items ++ (codes "=" ++ printed_tree tree.now)) }
     ensures kept { OnErr result (BeginsWith out.old.items out.new.items) }
 {
     out.extend_from_slice(b"=")?;

@@ -35,7 +35,8 @@ pub fn print_tree(tree: &Tree, out: &mut Vec<u8>) -> Result<(), NoMemory>
 }
 
 fn print_reference(reference: Ref, out: &mut Vec<u8>) -> Result<(), NoMemory>
-    ensures ok { OnOk result (out.new.items ≡ out.old.items ++ (codes "[" ++ printed_reference reference ++ codes "]")) }
+    ensures ok { OnOk result (out.new.items
+        ≡ out.old.items ++ (codes "[" ++ printed_reference reference ++ codes "]")) }
     ensures kept { OnErr result (BeginsWith out.old.items out.new.items) }
 {
     out.extend_from_slice(b"[")?;
@@ -45,7 +46,8 @@ fn print_reference(reference: Ref, out: &mut Vec<u8>) -> Result<(), NoMemory>
 
 #[cycle(printing)]
 fn print_parenthesis(child: &Tree, out: &mut Vec<u8>) -> Result<(), NoMemory>
-    ensures ok { OnOk result (out.new.items ≡ out.old.items ++ (codes "(" ++ printed_tree child.now ++ codes ")")) }
+    ensures ok { OnOk result (out.new.items
+        ≡ out.old.items ++ (codes "(" ++ printed_tree child.now ++ codes ")")) }
     ensures kept { OnErr result (BeginsWith out.old.items out.new.items) }
 {
     print_prefixed(b"(", child, out)?;
@@ -54,7 +56,8 @@ fn print_parenthesis(child: &Tree, out: &mut Vec<u8>) -> Result<(), NoMemory>
 
 #[cycle(printing)]
 fn print_prefixed(operator: &[u8], child: &Tree, out: &mut Vec<u8>) -> Result<(), NoMemory>
-    ensures ok { OnOk result (out.new.items ≡ out.old.items ++ (operator.now ++ printed_tree child.now)) }
+    ensures ok { OnOk result (out.new.items
+        ≡ out.old.items ++ (operator.now ++ printed_tree child.now)) }
     ensures kept { OnErr result (BeginsWith out.old.items out.new.items) }
 {
     out.extend_from_slice(operator)?;
@@ -63,7 +66,8 @@ fn print_prefixed(operator: &[u8], child: &Tree, out: &mut Vec<u8>) -> Result<()
 
 #[cycle(printing)]
 fn print_percent(child: &Tree, out: &mut Vec<u8>) -> Result<(), NoMemory>
-    ensures ok { OnOk result (out.new.items ≡ out.old.items ++ (printed_tree child.now ++ codes "%")) }
+    ensures ok { OnOk result (out.new.items
+        ≡ out.old.items ++ (printed_tree child.now ++ codes "%")) }
     ensures kept { OnErr result (BeginsWith out.old.items out.new.items) }
 {
     print_tree(child, out)?;
@@ -72,7 +76,9 @@ fn print_percent(child: &Tree, out: &mut Vec<u8>) -> Result<(), NoMemory>
 
 #[cycle(printing)]
 fn print_call(name: &[u8], args: &[Tree], out: &mut Vec<u8>) -> Result<(), NoMemory>
-    ensures ok { OnOk result (out.new.items ≡ out.old.items ++ (name.now ++ codes "(" ++ join_with_byte 59 (map printed_tree args.now) ++ codes ")")) }
+    ensures ok { OnOk result (out.new.items
+        ≡ out.old.items ++ (name.now ++ codes "("
+        ++ join_with_byte 59 (map printed_tree args.now) ++ codes ")")) }
     ensures kept { OnErr result (BeginsWith out.old.items out.new.items) }
 {
     out.extend_from_slice(name)?;
@@ -84,7 +90,8 @@ fn print_call(name: &[u8], args: &[Tree], out: &mut Vec<u8>) -> Result<(), NoMem
 /// Appends parameters with semicolons between them.
 #[cycle(printing)]
 fn print_args(args: &[Tree], out: &mut Vec<u8>) -> Result<(), NoMemory>
-    ensures ok { OnOk result (out.new.items ≡ out.old.items ++ join_with_byte 59 (map printed_tree args.now)) }
+    ensures ok { OnOk result (out.new.items
+        ≡ out.old.items ++ join_with_byte 59 (map printed_tree args.now)) }
     ensures kept { OnErr result (BeginsWith out.old.items out.new.items) }
 {
     for (at, arg) in args.iter().enumerate() {

@@ -1,29 +1,14 @@
-pub mod SignedTrees
-pub mod Unquoting
-pub mod Chains
-pub mod Identifiers
-pub mod Fronts
-pub mod TreeCounts
-pub mod OperatorTexts
-pub mod Prefixes
-pub mod NumberFronts
-pub mod Quoting
-pub mod ErrorFronts
-pub mod ReferenceTexts
-pub mod ReferenceFronts
-pub mod Beginnings
-pub mod Primaries
-pub mod Runs
-pub mod SpellingsRead
-pub mod FormulasRead
+-- Steps, Turns, Unquoting: what the code's loops keep. TreeCounts: the tokens, parentheses and parameters of a tree.
+-- Complete: what is spelled is read. Sound: what is read is spelled. Formed: what is spelled is well formed.
+-- Meaning and OneMeaning: the one meaning of fields, for the crates above. Examples: worked ones.
 pub mod Steps
-pub mod LeavesSpelled
-pub mod OperatorsSpelled
-pub mod SignsSpelled
-pub mod RowsSpelled
-pub mod FormulasSpelled
+pub mod Turns
+pub mod Unquoting
+pub mod TreeCounts
+pub mod Identifiers
+pub mod Complete
+pub mod Sound
+pub mod Formed
 pub mod Meaning
 pub mod OneMeaning
-pub mod Capitals
-pub mod FormedSpellings
-mod FieldExamples
+mod Examples

@@ -5,8 +5,8 @@ use Rattle.calc_model.specs.declared.content.Content.{Content}
 use Rattle.calc_model.specs.declared.tree.Tree.{Tree}
 use Rattle.formula_reader.specs.Fields.{field_of}
 use Rattle.formula_reader.specs.Reading.{formula_of}
-use Rattle.formula_reader.proofs.FormulasRead.{formula_read}
-use Rattle.formula_reader.proofs.FormulasSpelled.{formula_spelled}
+use Rattle.formula_reader.proofs.Complete.Formulas.{formula_read}
+use Rattle.formula_reader.proofs.Sound.Formulas.{formula_spelled}
 
 is_read : (text : List ℕ) (formula : Option Tree) → formula_of text ≡ formula → IsReadAs text formula
 is_read text (Some tree) e = formula_spelled text tree e

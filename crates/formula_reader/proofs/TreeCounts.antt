@@ -1,12 +1,12 @@
 -- The counts of a tree, by its top node.
-use Rattle.std.proofs.Common.{◌≡◌, ◌≤◌, ◌+◌, ◌-◌, ℕ, suc, List, [], ◌∷◌, ◌++◌, length, max, map, sum, refl, ap, ◌∙◌, arith}
-use Rattle.std.proofs.lemmas.List.Sums.{fold_push, sum_by_push}
 use Rattle.calc_model.proofs.TreeFolds as folds
+use Rattle.calc_model.specs.declared.tree.Tree.TheVariants as t
+use Rattle.std.proofs.Common.{◌≡◌, ◌≤◌, ◌+◌, ◌-◌, ℕ, suc, List, [], ◌∷◌, ◌++◌, length, max, map, sum, refl, ap, ◌∙◌, subst, arith}
+use Rattle.std.proofs.lemmas.List.Sums.{fold_push, sum_by_push}
 use Rattle.calc_model.specs.Grammar.{IsOperand, error, large_number, name, number, reference, string}
-use Rattle.calc_model.specs.Limits.{Counts, counts_of, counts_step, most}
+use Rattle.calc_model.specs.Limits.{Counts, counts_of, counts_step, most, one_more_token, one_token}
 use Rattle.calc_model.specs.declared.tree.Op.{Op}
 use Rattle.calc_model.specs.declared.tree.Tree.{Tree}
-use Rattle.calc_model.specs.declared.tree.Tree.TheVariants as t
 
 abbrev pub tokens_of : Tree → ℕ
 tokens_of x = (counts_of x).tokens
@@ -31,29 +31,24 @@ opens c = c.open_at_once
 abbrev parameters : Counts → ℕ
 parameters c = c.parameters
 
-pub operand_tokens : {text : List ℕ} {x : Tree} → IsOperand text x → tokens_of x ≡ 1
-operand_tokens (number text n s r) = ap tokens (folds.at-Number Counts counts_step n)
-operand_tokens (large_number text s r) = ap tokens (folds.at-Bad Counts counts_step _)
-operand_tokens (string text u) = ap tokens (folds.at-Words Counts counts_step text)
-operand_tokens (reference text r e) = ap tokens (folds.at-Ref Counts counts_step r)
-operand_tokens (error fault e) = ap tokens (folds.at-Bad Counts counts_step fault)
-operand_tokens (name text e) = ap tokens (folds.at-Name Counts counts_step text)
+-- the counts of an operand
+pub record OneToken (x : Tree) : Type 0 where
+  pub tokens : tokens_of x ≡ 1
+  pub opens : open_of x ≡ 0
+  pub parameters : parameters_of x ≡ 0
 
-pub operand_opens : {text : List ℕ} {x : Tree} → IsOperand text x → open_of x ≡ 0
-operand_opens (number text n s r) = ap opens (folds.at-Number Counts counts_step n)
-operand_opens (large_number text s r) = ap opens (folds.at-Bad Counts counts_step _)
-operand_opens (string text u) = ap opens (folds.at-Words Counts counts_step text)
-operand_opens (reference text r e) = ap opens (folds.at-Ref Counts counts_step r)
-operand_opens (error fault e) = ap opens (folds.at-Bad Counts counts_step fault)
-operand_opens (name text e) = ap opens (folds.at-Name Counts counts_step text)
+one_counted : {text : List ℕ} {x : Tree} → IsOperand text x → counts_of x ≡ one_token
+one_counted (number text n s r) = folds.at-Number Counts counts_step n
+one_counted (large_number text s r) = folds.at-Bad Counts counts_step _
+one_counted (string text u) = folds.at-Words Counts counts_step text
+one_counted (reference text r e) = folds.at-Ref Counts counts_step r
+one_counted (error fault e) = folds.at-Bad Counts counts_step fault
+one_counted (name text e) = folds.at-Name Counts counts_step text
 
-pub operand_parameters : {text : List ℕ} {x : Tree} → IsOperand text x → parameters_of x ≡ 0
-operand_parameters (number text n s r) = ap parameters (folds.at-Number Counts counts_step n)
-operand_parameters (large_number text s r) = ap parameters (folds.at-Bad Counts counts_step _)
-operand_parameters (string text u) = ap parameters (folds.at-Words Counts counts_step text)
-operand_parameters (reference text r e) = ap parameters (folds.at-Ref Counts counts_step r)
-operand_parameters (error fault e) = ap parameters (folds.at-Bad Counts counts_step fault)
-operand_parameters (name text e) = ap parameters (folds.at-Name Counts counts_step text)
+pub operand_counts : {text : List ℕ} {x : Tree} → IsOperand text x → OneToken x
+operand_counts is =
+    let e = one_counted is in
+    record { tokens = ap tokens e; opens = ap opens e; parameters = ap parameters e }
 
 -- the counts of a node that has one child: a token more
 pub record OneMore (node child : Tree) : Type 0 where
@@ -61,20 +56,23 @@ pub record OneMore (node child : Tree) : Type 0 where
   pub opens : open_of node ≡ open_of child
   pub parameters : parameters_of node ≡ parameters_of child
 
+one_more : (node child : Tree) → counts_of node ≡ one_more_token (counts_of child) → OneMore node child
+one_more node child e = record { tokens = ap tokens e; opens = ap opens e; parameters = ap parameters e }
+
 pub plus_counts : (x : Tree) → OneMore (t.Plus x) x
-plus_counts x =
-    let e = folds.at-Plus Counts counts_step x in
-    record { tokens = ap tokens e; opens = ap opens e; parameters = ap parameters e }
+plus_counts x = one_more (t.Plus x) x (folds.at-Plus Counts counts_step x)
 
 pub minus_counts : (x : Tree) → OneMore (t.Minus x) x
-minus_counts x =
-    let e = folds.at-Minus Counts counts_step x in
-    record { tokens = ap tokens e; opens = ap opens e; parameters = ap parameters e }
+minus_counts x = one_more (t.Minus x) x (folds.at-Minus Counts counts_step x)
 
 pub percent_counts : (x : Tree) → OneMore (t.Percent x) x
-percent_counts x =
-    let e = folds.at-Percent Counts counts_step x in
-    record { tokens = ap tokens e; opens = ap opens e; parameters = ap parameters e }
+percent_counts x = one_more (t.Percent x) x (folds.at-Percent Counts counts_step x)
+
+pub within_child : {others d : ℕ} {node child : Tree} → OneMore node child → Within others d node → Within others d child
+within_child {others = others} {d = d} counts within = record {
+  opens = subst (λ n. n ≤ d) counts.opens within.opens;
+  parameters = subst (λ n. n ≤ suc others) counts.parameters within.parameters;
+}
 
 pub record ParenCounts (x : Tree) : Type 0 where
   pub tokens : tokens_of (t.Paren x) ≡ tokens_of x + 2
@@ -99,6 +97,10 @@ binary_counts op x y =
 -- what parameters count together, semicolons apart
 abbrev pub all_tokens : List Tree → ℕ
 all_tokens args = sum (map tokens (map counts_of args))
+
+-- the tokens of parameters, with the semicolons between them
+abbrev pub args_tokens : List Tree → ℕ
+args_tokens args = all_tokens args + (length args - 1)
 
 abbrev pub most_open : List Tree → ℕ
 most_open args = most (map opens (map counts_of args))

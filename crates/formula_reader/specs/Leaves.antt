@@ -1,5 +1,7 @@
 -- The tokens that are operands by themselves, at the front of what is left: the tree, and the bytes behind.
-use Rattle.std.specs.Prelude.{ℕ, ◌==◌, ◌||◌, nat_eq, Bool, true, false, List, [], ◌∷◌, length, take, drop, Option, Some, None, option_map, if◌then◌else◌}
+use denote.Ref.{Bor}
+use Rattle.std.specs.declared.alloc.Global.{Global}
+use Rattle.std.specs.Prelude.{Vec, ℕ, ◌==◌, ◌||◌, nat_eq, Bool, true, false, List, [], ◌∷◌, length, take, drop, Option, Some, None, option_map, if◌then◌else◌}
 use Rattle.std.specs.Char.{is_ascii_digit}
 use Rattle.std.specs.List.{after_first, before_first, find, list_any, starts_with}
 use Rattle.std.specs.Str.{is_utf8}
@@ -15,7 +17,7 @@ use Rattle.calc_model.specs.declared.tree.Tree.{Tree}
 use Rattle.calc_model.specs.declared.tree.Tree.TheVariants as t
 use Rattle.calc_model.specs.Field.{error_constants}
 use Rattle.calc_model.specs.ValueTexts.{fault_text}
-use Rattle.formula_reader.specs.Unread.{◌>>=◌, beside}
+use Rattle.formula_reader.specs.Unread.{◌>>=◌, Read, Unread, beside, past}
 
 abbrev pub number_tree : Reading → Option Tree
 number_tree (readings.Number n) = Some (t.Number n)
@@ -29,6 +31,11 @@ number_at bytes = option_map (beside (drop (unsigned_len bytes) bytes)) (number_
 abbrev pub prepend : ℕ → Option (List ℕ × List ℕ) → Option (List ℕ × List ℕ)
 prepend byte None = None
 prepend byte (Some parts) = Some (byte ∷ parts.0, parts.1)
+
+-- what stands behind a quote that is next
+abbrev pub behind_quote : List ℕ → Option (List ℕ)
+behind_quote [] = None
+behind_quote (byte ∷ rest) = if byte == 34 then Some rest else None
 
 -- The text up to the first quote that isn't doubled, with a quote for two, and what stands behind that quote. The
 -- test says whether a quote was passed that may be the last one or the first of two.
@@ -71,3 +78,18 @@ operand_at (byte ∷ rest) =
     else (if byte == 91 then reference_at rest
     else (if byte == 35 then error_at (byte ∷ rest)
     else (if is_ascii_digit byte || byte == 46 then number_at (byte ∷ rest) else None)))
+
+-- what was found at the front is taken as a token
+abbrev pub taken : ℕ → Tree × List ℕ → Read
+taken tokens found = option_map (λ (unread : Unread). (found.0, unread)) (past tokens found.1)
+
+abbrev pub token_taken : ℕ → Option (Tree × List ℕ) → Read
+token_taken tokens found = found >>= taken tokens
+
+-- a token that is read at the front is taken
+abbrev pub token_by : (List ℕ → Option (Tree × List ℕ)) → Unread → Read
+token_by reading unread = token_taken unread.tokens (reading unread.bytes)
+
+-- a text of the code, with what is left behind it
+abbrev pub text_behind : Vec ℕ Global × Bor (List ℕ) → List ℕ × List ℕ
+text_behind read = (read.0.items, read.1.now)

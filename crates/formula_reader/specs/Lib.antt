@@ -1,6 +1,7 @@
 pub mod Unread
 pub mod Leaves
 pub mod Operators
-pub mod Rows
+pub mod Signs
+pub mod Operands
 pub mod Reading
 pub mod Fields

@@ -1,14 +1,10 @@
 -- The operators behind an operand, at the front of what is left.
-use Rattle.std.specs.Prelude.{ℕ, ◌==◌, List, [], ◌∷◌, Option, Some, None, if◌then◌else◌, option_map}
+use Rattle.std.specs.Prelude.{ℕ, ◌==◌, nat_le, List, [], ◌∷◌, Option, Some, None, if◌then◌else◌, option_map}
 use Rattle.calc_model.specs.Grammar.{op_level}
 use Rattle.calc_model.specs.declared.tree.Op.TheVariants.{Pow, Mul, Div, Add, Sub, Cat, Eq, Ne, Lt, Le, Gt, Ge}
-use Rattle.calc_model.specs.declared.tree.Tree.{Tree}
-use Rattle.calc_model.specs.declared.tree.Tree.TheVariants as t
 use Rattle.formula_reader.specs.declared.operators.Operator.{Operator}
 use Rattle.formula_reader.specs.declared.operators.Operator.TheVariants as operators
-use Rattle.formula_reader.specs.declared.operators.Tail.{Tail}
-use Rattle.formula_reader.specs.declared.operators.Tail.TheVariants as tails
-use Rattle.formula_reader.specs.Unread.{beside}
+use Rattle.formula_reader.specs.Unread.{Unread, beside, taken_if}
 
 -- the operator that is one byte and no beginning of another
 abbrev pub single_operator : ℕ → Option Operator
@@ -39,17 +35,16 @@ operator_at (byte ∷ rest) =
     if byte == 60 then Some (less_at rest)
     else (if byte == 62 then Some (greater_at rest) else option_map (beside rest) (single_operator byte))
 
--- the row of an operator
-abbrev pub row_of : Operator → ℕ
-row_of operators.Percent = 1
-row_of (operators.Infix op) = op_level op
+-- the level of an operator
+abbrev pub level_of : Operator → ℕ
+level_of operators.Percent = 1
+level_of (operators.Infix op) = op_level op
 
--- only an operator of the row
-abbrev pub of_row : ℕ → Option (Operator × List ℕ) → Option (Operator × List ℕ)
-of_row row None = None
-of_row row (Some found) = if row_of found.0 == row then Some found else None
+-- the operator, if it is found and its level is this or tighter
+abbrev pub up_to : ℕ → Option (Operator × List ℕ) → Option (Operator × List ℕ)
+up_to level None = None
+up_to level (Some found) = if nat_le (level_of found.0) level then Some found else None
 
--- an operand with what stands behind it: a percent sign, or an infix operator and its right operand
-abbrev pub attach : Tree → Tail → Tree
-attach x tails.Percent = t.Percent x
-attach x (tails.Infix op right) = t.Binary op x right
+-- the operator in front is taken, if its level is this or tighter
+unfoldable pub operator_taken : ℕ → Unread → Option (Option Operator × Unread)
+operator_taken level unread = taken_if unread (up_to level (operator_at unread.bytes))

@@ -33,7 +33,8 @@ pub(crate) fn over() -> Constant
 /// The constant that a text is: a number, an error constant, or the text itself.
 pub(crate) fn read_constant(alloc: Global, text: &[u8]) -> Result<Constant, NoMemory>
     requires { IsUtf8 text.now }
-    ensures { IfOk result (λ constant. contents.Constant constant ≡ constant_of (reading text.now) text.now) }
+    ensures { IfOk result (λ constant.
+        contents.Constant constant ≡ constant_of (reading text.now) text.now) }
 {
     match Num::read(text) {
         Reading::Number(number) => Ok(Constant::of(Value::Number(number))),

@@ -1,5 +1,6 @@
+ghost use Rattle.byte_cuts.specs.Fronts.{behind};
 ghost use Rattle.calc_model.specs.Tokens.{is_blank};
-ghost use Rattle.formula_reader.specs.Unread.{Gives, behind, is_at, past, skip, token_at, unread_of};
+ghost use Rattle.formula_reader.specs.Unread.{Leaves, next_is, past, skip, token_at, unread_of};
 ghost use Rattle.std.specs.List.{prefix_len};
 ghost use Rattle.std.specs.Prelude.{length, ◌≡◌, ◌≤◌};
 
@@ -37,7 +38,7 @@ impl<T: Drop> From<AllocFailed<T>> for Stop {
 }
 
 /// What is left to read.
-#[derive(Clone, Copy)]
+#[derive(Drop)]
 pub(crate) struct Cursor<'a> {
     /// The bytes that aren't read, without blanks in front.
     pub bytes: &'a [u8],
@@ -45,17 +46,38 @@ pub(crate) struct Cursor<'a> {
     pub tokens: usize,
 }
 
-/// What is left behind a token, when these bytes stand behind it. The blanks behind it go with it.
-pub(crate) fn past(tokens: usize, rest: &[u8]) -> Result<Cursor<'_>, Stop>
-    ensures { Gives unread_of result (past tokens rest.now) }
-{
-    if tokens == 0 {
-        return Err(Stop::Unspelled);
+impl<'a> Cursor<'a> {
+    /// Takes a token that these bytes stand behind, and the blanks behind it.
+    pub fn past(&mut self, rest: &'a [u8]) -> Result<(), Stop>
+        ensures { Leaves result self.new (past self.old.tokens rest.now) }
+    {
+        if self.tokens == 0 {
+            return Err(Stop::Unspelled);
+        }
+        self.bytes = skip(rest);
+        self.tokens -= 1;
+        Ok(())
     }
-    Ok(Cursor {
-        bytes: skip(rest),
-        tokens: tokens - 1,
-    })
+
+    /// Takes a token of this one byte.
+    pub fn token(&mut self, byte: u8) -> Result<(), Stop>
+        ensures { Leaves result self.new (token_at byte (unread_of self.old)) }
+    {
+        match self.bytes {
+            [first, rest @ ..] if *first == byte => self.past(rest),
+            _ => Err(Stop::Unspelled),
+        }
+    }
+
+    /// Whether the next byte is this one.
+    pub fn next_is(&self, byte: u8) -> bool
+        ensures { result ≡ next_is byte self.now.bytes.now }
+    {
+        match self.bytes.split_first() {
+            Some((first, _)) => *first == byte,
+            None => false,
+        }
+    }
 }
 
 /// The bytes without the blanks in front.
@@ -73,28 +95,8 @@ fn blanks_len(bytes: &[u8]) -> usize
 }
 
 /// Whether the byte may stand between tokens.
-pub(crate) fn is_blank(byte: u8) -> bool
+fn is_blank(byte: u8) -> bool
     ensures { result ≡ is_blank byte }
 {
     matches!(byte, b' ' | b'\t' | b'\n' | b'\r')
-}
-
-/// Whether the first byte is this one.
-pub(crate) fn is_at(byte: u8, bytes: &[u8]) -> bool
-    ensures { result ≡ is_at byte bytes.now }
-{
-    match bytes.split_first() {
-        Some((first, _)) => *first == byte,
-        None => false,
-    }
-}
-
-/// What is left behind a token of this one byte.
-pub(crate) fn token(byte: u8, cursor: Cursor<'_>) -> Result<Cursor<'_>, Stop>
-    ensures { Gives unread_of result (token_at byte (unread_of cursor.entry)) }
-{
-    match cursor.bytes {
-        [first, rest @ ..] if *first == byte => past(cursor.tokens, rest),
-        _ => Err(Stop::Unspelled),
-    }
 }

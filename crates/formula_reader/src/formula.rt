@@ -1,9 +1,9 @@
-ghost use Rattle.formula_reader.specs.Unread.{Gives, is_at};
-ghost use Rattle.formula_reader.specs.Reading.{behind_equals, behind_front, comparison_within, formula_of};
+ghost use Rattle.formula_reader.specs.Unread.{Makes};
+ghost use Rattle.formula_reader.specs.Reading.{behind_equals, behind_front, comparison_in_limits, formula_of};
 ghost use Rattle.std.specs.Prelude.{IfOk, option_map, ◌≡◌};
 
-use crate::cursor::{Cursor, Stop, is_at, skip};
-use crate::rows::comparison;
+use crate::cursor::{Cursor, Stop, skip};
+use crate::operands::{COMPARISON, operands};
 use calc_addr::NoMemory;
 use calc_model::{MOST_FORMULA_BYTES, MOST_OPEN, MOST_TOKENS, Tree};
 use std::alloc::{AllocError, Global};
@@ -33,14 +33,14 @@ pub(crate) fn read_formula(alloc: Global, text: &[u8]) -> Result<Option<Tree>, N
 
 /// A comparison that is all of these bytes.
 fn read_comparison(alloc: Global, bytes: &[u8]) -> Result<Tree, Stop>
-    ensures { Gives (λ tree. tree) result (comparison_within 29 65 1024 bytes.now) }
+    ensures { Makes (λ tree. tree) result (comparison_in_limits bytes.now) }
 {
-    let cursor = Cursor {
+    let mut cursor = Cursor {
         bytes: skip(bytes),
         tokens: MOST_TOKENS,
     };
-    let (tree, rest) = comparison(alloc, MOST_OPEN + 1, cursor)?;
-    if rest.bytes.is_empty() {
+    let tree = operands(alloc, MOST_OPEN, COMPARISON, &mut cursor)?;
+    if cursor.bytes.is_empty() {
         Ok(tree)
     } else {
         Err(Stop::Unspelled)

@@ -10,7 +10,8 @@ ghost use Rattle.std.specs.Prelude.{List, true, ℕ, ◌≡◌};
 pub fn a_text_spells_one_tree()
     ensures one { (text : List ℕ) → (first second : Tree) → Spells text first → Spells text second
         → first ≡ second }
-    ensures formed { (text : List ℕ) → (tree : Tree) → Spells text tree → is_well_formed tree ≡ true }
+    ensures formed { (text : List ℕ) → (tree : Tree) → Spells text tree
+        → is_well_formed tree ≡ true }
 {}
 
 /// A field has exactly one content, and so there is exactly one meaning of fields.

@@ -1,11 +1,10 @@
 ghost use Rattle.calc_model.specs.Grammar.{op_level};
-ghost use Rattle.formula_reader.specs.Operators.{attach, greater_at, less_at, of_row, operator_at, row_of, single_operator};
-ghost use Rattle.std.specs.Prelude.{IfOk, option_map, ◌≡◌};
+ghost use Rattle.formula_reader.specs.Operators.{greater_at, less_at, level_of, operator_at, operator_taken, single_operator};
+ghost use Rattle.formula_reader.specs.Unread.{Gives, unread_of};
+ghost use Rattle.std.specs.Prelude.{IfOk, IfSome, option_map, ◌<◌, ◌≡◌, ◌≤◌};
 
-use calc_addr::NoMemory;
-use calc_model::{Op, Tree};
-use sqlite_items::Boxed;
-use std::alloc::Global;
+use crate::cursor::{Cursor, Stop};
+use calc_model::Op;
 
 /// An operator that stands behind an operand.
 #[derive(Clone, Copy)]
@@ -14,22 +13,18 @@ pub(crate) enum Operator {
     Infix(Op),
 }
 
-/// What follows an operand: a percent sign, or an infix operator and its right operand.
-#[derive(Drop)]
-pub(crate) enum Tail {
-    Percent,
-    Infix(Op, Tree),
-}
-
-/// The operator of the row at the front, and what stands behind it.
-pub(crate) fn operator_of_row(row: u8, bytes: &[u8]) -> Option<(Operator, &[u8])>
-    ensures { option_map (λ found. (found.0, found.1.now)) result ≡ of_row row (operator_at bytes.now) }
+/// Takes the operator in front, if there is one and its level is this or tighter.
+#[tactic(auto, unfolding(crate::specs::Operators::operator_taken))]
+pub(crate) fn take_operator(level: u8, cursor: &mut Cursor<'_>) -> Result<Option<Operator>, Stop>
+    ensures taken { Gives result cursor.new (operator_taken level (unread_of cursor.old)) }
+    ensures within { IfOk result (λ found. IfSome found (λ operator. level_of operator ≤ level)) }
 {
-    let found = operator_in_front(bytes)?;
-    if row_of(found.0) == row {
-        Some(found)
-    } else {
-        None
+    match operator_in_front(cursor.bytes) {
+        Some((operator, rest)) if level_of(operator) <= level => {
+            cursor.past(rest)?;
+            Ok(Some(operator))
+        }
+        _ => Ok(None),
     }
 }
 
@@ -82,18 +77,19 @@ fn single_operator(byte: u8) -> Option<Operator>
     }
 }
 
-/// The row of an operator: the looser, the tighter it binds.
-fn row_of(operator: Operator) -> u8
-    ensures { result ≡ row_of operator }
+/// The level of an operator: the lower, the tighter it binds.
+fn level_of(operator: Operator) -> u8
+    ensures { result ≡ level_of operator }
 {
     match operator {
         Operator::Percent => 1,
-        Operator::Infix(op) => infix_row(op),
+        Operator::Infix(op) => infix_level(op),
     }
 }
 
-fn infix_row(op: Op) -> u8
-    ensures { result ≡ op_level op }
+pub(crate) fn infix_level(op: Op) -> u8
+    ensures level { result ≡ op_level op }
+    ensures some { 0 < result }
 {
     match op {
         Op::Pow => 2,
@@ -101,19 +97,5 @@ fn infix_row(op: Op) -> u8
         Op::Add | Op::Sub => 4,
         Op::Cat => 5,
         Op::Eq | Op::Ne | Op::Lt | Op::Le | Op::Gt | Op::Ge => 6,
-    }
-}
-
-/// An operand with what follows it.
-pub(crate) fn attach(alloc: Global, tree: Tree, tail: Tail) -> Result<Tree, NoMemory>
-    ensures { IfOk result (λ attached. attached ≡ attach tree tail) }
-{
-    match tail {
-        Tail::Percent => Ok(Tree::Percent(Boxed::new(alloc, tree)?)),
-        Tail::Infix(op, right) => Ok(Tree::Binary {
-            op,
-            left: Boxed::new(alloc, tree)?,
-            right: Boxed::new(alloc, right)?,
-        }),
     }
 }

@@ -1,63 +1,74 @@
-ghost use Rattle.formula_reader.specs.Rows.{is_sign, is_sign_or_blank, signed, signed_by};
-ghost use Rattle.formula_reader.specs.Unread.{behind};
-ghost use Rattle.std.specs.List.{count_by, prefix_len, take_while};
-ghost use Rattle.std.specs.Prelude.{IfOk, length, ◌≡◌, ◌≤◌};
+ghost use Rattle.formula_reader.specs.Signs.{sign_at, sign_taken, signed, signed_by};
+ghost use Rattle.formula_reader.specs.Operands.{TakesSigns};
+ghost use Rattle.formula_reader.specs.Unread.{Gives, unread_of};
+ghost use Rattle.std.specs.Prelude.{IfOk, option_map, ◌≡◌};
 
-use crate::cursor::is_blank;
+use crate::cursor::{Cursor, Stop};
 use calc_addr::NoMemory;
 use calc_model::Tree;
 use sqlite_items::Boxed;
 use std::alloc::Global;
 
-/// The signs in front with the blanks between them, and what stands behind.
-pub(crate) fn split_signs(bytes: &[u8]) -> (&[u8], &[u8])
-    ensures front { result.0.now ≡ take_while is_sign_or_blank bytes.now }
-    ensures rest { result.1.now ≡ behind is_sign_or_blank bytes.now }
-{
-    bytes.split_at(signs_len(bytes))
+/// A prefix operator.
+#[derive(Clone, Copy)]
+pub(crate) enum Sign {
+    Plus,
+    Minus,
 }
 
-fn signs_len(bytes: &[u8]) -> usize
-    ensures within { result ≤ length bytes.now }
-    ensures signs { result ≡ prefix_len is_sign_or_blank bytes.now }
+/// Takes the sign in front, if there is one.
+#[tactic(auto, unfolding(crate::specs::Signs::sign_taken))]
+fn take_sign(cursor: &mut Cursor<'_>) -> Result<Option<Sign>, Stop>
+    ensures { Gives result cursor.new (sign_taken (unread_of cursor.old)) }
 {
-    bytes
-        .iter()
-        .take_while(|byte| is_sign(**byte) || is_blank(**byte))
-        .count()
+    match sign_in_front(cursor.bytes) {
+        Some((sign, rest)) => {
+            cursor.past(rest)?;
+            Ok(Some(sign))
+        }
+        None => Ok(None),
+    }
 }
 
-fn is_sign(byte: u8) -> bool
-    ensures { result ≡ is_sign byte }
+fn sign_in_front(bytes: &[u8]) -> Option<(Sign, &[u8])>
+    ensures { option_map (λ found. (found.0, found.1.now)) result ≡ sign_at bytes.now }
 {
-    byte == b'+' || byte == b'-'
+    match bytes {
+        [b'+', rest @ ..] => Some((Sign::Plus, rest)),
+        [b'-', rest @ ..] => Some((Sign::Minus, rest)),
+        _ => None,
+    }
 }
 
-pub(crate) fn count_signs(front: &[u8]) -> usize
-    ensures { result ≡ count_by is_sign front.now }
+/// Takes all signs in front.
+pub(crate) fn take_signs(alloc: Global, cursor: &mut Cursor<'_>) -> Result<Vec<Sign>, Stop>
+    ensures { TakesSigns result cursor.old cursor.new }
 {
-    front.iter().filter(|byte| is_sign(**byte)).count()
+    let mut signs = Vec::new(alloc);
+    while let Some(sign) = take_sign(cursor)? {
+        signs.push(sign)?;
+    }
+    Ok(signs)
 }
 
-/// A tree behind its prefix operators, of which the last binds it first.
-pub(crate) fn signed(alloc: Global, front: &[u8], tree: Tree) -> Result<Tree, NoMemory>
-    ensures { IfOk result (λ made. made ≡ signed front.now tree) }
+/// A tree behind signs, of which the last binds it first.
+pub(crate) fn signed(alloc: Global, signs: Vec<Sign>, tree: Tree) -> Result<Tree, NoMemory>
+    ensures { IfOk result (λ made. made ≡ signed signs.items tree) }
 {
+    let mut signs = signs;
     let mut made = tree;
-    let mut left = front.len();
-    while left > 0 {
-        left -= 1;
-        made = signed_by(alloc, front[left], made)?;
+    while let Some(sign) = signs.pop() {
+        made = signed_by(alloc, sign, made)?;
     }
     Ok(made)
 }
 
-fn signed_by(alloc: Global, byte: u8, tree: Tree) -> Result<Tree, NoMemory>
-    ensures { IfOk result (λ made. made ≡ signed_by byte tree) }
+fn signed_by(alloc: Global, sign: Sign, tree: Tree) -> Result<Tree, NoMemory>
+    ensures { IfOk result (λ made. made ≡ signed_by sign tree) }
 {
-    match byte {
-        b'+' => Ok(Tree::Plus(Boxed::new(alloc, tree)?)),
-        b'-' => Ok(Tree::Minus(Boxed::new(alloc, tree)?)),
-        _ => Ok(tree),
+    let tree = Boxed::new(alloc, tree)?;
+    match sign {
+        Sign::Plus => Ok(Tree::Plus(tree)),
+        Sign::Minus => Ok(Tree::Minus(tree)),
     }
 }

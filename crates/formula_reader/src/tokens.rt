@@ -1,121 +1,127 @@
 ghost use Rattle.calc_model.specs.Field.{error_constants};
 ghost use Rattle.calc_model.specs.ValueTexts.{fault_text};
-ghost use Rattle.formula_reader.specs.Leaves.{error_at, is_closing, number_at, operand_at, reference_at, string_at, unquoted};
-ghost use Rattle.formula_reader.specs.Unread.{Gives, bytes_behind, tree_behind};
 ghost use Rattle.calc_model.specs.declared.fault.Fault.{Fault};
-ghost use Rattle.std.specs.List.{after_first, before_first, find, list_any, position, starts_with};
-ghost use Rattle.std.specs.Prelude.{MatchOption, false, length, nat_eq, true, ◌==◌, ◌≡◌, ◌≤◌};
+ghost use Rattle.formula_reader.specs.Leaves.{behind_quote, error_at, number_at, operand_at, reference_at, string_at, text_behind, token_by, token_taken, unquoted};
+ghost use Rattle.formula_reader.specs.Unread.{Gives, Makes, unread_of};
+ghost use Rattle.std.specs.List.{find, starts_with};
+ghost use Rattle.std.specs.Prelude.{false, length, nat_eq, option_map, ◌≡◌, ◌≤◌};
 
-use crate::constant::{ERROR_CONSTANTS, to_text};
-use crate::cursor::Stop;
+use crate::constant::ERROR_CONSTANTS;
+use crate::cursor::{Cursor, Stop};
+use byte_cuts::split_once;
 use calc_addr::read_ref;
-use calc_model::{Fault, List, Tree, is_utf8};
+use calc_model::{Fault, Text, Tree};
 use calc_num::{Num, Reading, unsigned_len};
 use std::alloc::Global;
 
-/// The operand of one token at the front, and what stands behind it: a number, a text in quotes, a
-/// reference in brackets, or an error constant. Linear in the token.
-pub(crate) fn operand(alloc: Global, bytes: &[u8]) -> Result<(Tree, &[u8]), Stop>
-    ensures { Gives tree_behind result (operand_at bytes.now) }
+/// The byte before and behind a text, which is doubled inside it.
+const QUOTE: u8 = b'"';
+
+/// Takes an operand of one token: a number, a text in quotes, a reference in brackets, or an error
+/// constant. Linear in the token.
+pub(crate) fn operand(alloc: Global, cursor: &mut Cursor<'_>) -> Result<Tree, Stop>
+    ensures { Gives result cursor.new (token_by operand_at (unread_of cursor.old)) }
 {
-    match bytes {
-        [b'"', rest @ ..] => string(alloc, rest),
-        [b'[', rest @ ..] => reference(rest),
-        [b'#', ..] => error_constant(bytes),
-        [b'0'..=b'9' | b'.', ..] => number(bytes),
+    match cursor.bytes {
+        [QUOTE, rest @ ..] => string(alloc, rest, cursor),
+        [b'[', rest @ ..] => reference(rest, cursor),
+        [b'#', ..] => error_constant(cursor),
+        [b'0'..=b'9' | b'.', ..] => number(cursor),
         _ => Err(Stop::Unspelled),
     }
 }
 
 /// A number, which is the error `#OVER!` where it is too large.
-fn number(bytes: &[u8]) -> Result<(Tree, &[u8]), Stop>
-    ensures { Gives tree_behind result (number_at bytes.now) }
+fn number(cursor: &mut Cursor<'_>) -> Result<Tree, Stop>
+    ensures { Gives result cursor.new (token_by number_at (unread_of cursor.old)) }
 {
-    let (number, rest) = bytes.split_at(unsigned_len(bytes));
+    let (number, rest) = cursor.bytes.split_at(unsigned_len(cursor.bytes));
+    cursor.past(rest)?;
     match Num::read(number) {
-        Reading::Number(number) => Ok((Tree::Number(number), rest)),
-        Reading::TooLarge => Ok((Tree::Bad(Fault::Over), rest)),
+        Reading::Number(number) => Ok(Tree::Number(number)),
+        Reading::TooLarge => Ok(Tree::Bad(Fault::Over)),
         Reading::NotNumber => Err(Stop::Unspelled),
     }
 }
 
 /// A text in quotes, behind its first quote.
-fn string(alloc: Global, bytes: &[u8]) -> Result<(Tree, &[u8]), Stop>
-    ensures { Gives tree_behind result (string_at bytes.now) }
+#[cold]
+#[inline(never)]
+fn string<'a>(alloc: Global, bytes: &'a [u8], cursor: &mut Cursor<'a>) -> Result<Tree, Stop>
+    ensures { Gives result cursor.new (token_taken cursor.old.tokens (string_at bytes.now)) }
 {
     let (text, rest) = unquoted(alloc, bytes)?;
-    if !is_utf8(text.items()) {
-        return Err(Stop::Unspelled);
+    cursor.past(rest)?;
+    match String::from_utf8(text) {
+        Ok(text) => Ok(Tree::Words(Text::of(text))),
+        Err(_) => Err(Stop::Unspelled),
     }
-    Ok((Tree::Words(to_text(alloc, text.items())?), rest))
 }
 
-/// The text up to the first quote that isn't doubled, and what stands behind that quote.
-fn unquoted(alloc: Global, bytes: &[u8]) -> Result<(List<u8>, &[u8]), Stop>
-    ensures { Gives bytes_behind result (unquoted false bytes.now) }
+/// The text up to the first quote that isn't doubled, run by run up to each quote, and what stands
+/// behind that quote.
+fn unquoted(alloc: Global, bytes: &[u8]) -> Result<(Vec<u8>, &[u8]), Stop>
+    ensures { Makes text_behind result (unquoted false bytes.now) }
 {
     let mut text = Vec::new(alloc);
-    let mut quote_passed = false;
-    for (at, byte) in bytes.iter().enumerate() {
-        let is_quote = *byte == b'"';
-        if is_quote == quote_passed {
-            text.push(*byte)?;
-            quote_passed = false;
-        } else if quote_passed {
-            return Ok((List::of(text), &bytes[at..]));
-        } else {
-            quote_passed = true;
+    let mut left = bytes;
+    while let Some((run, rest)) = split_once(left, QUOTE) {
+        text.extend_from_slice(run)?;
+        match behind_quote(rest) {
+            Some(more) => {
+                text.push(QUOTE)?;
+                left = more;
+            }
+            None => return Ok((text, rest)),
         }
     }
-    if quote_passed {
-        Ok((List::of(text), &[]))
-    } else {
-        Err(Stop::Unspelled)
+    Err(Stop::Unspelled)
+}
+
+/// What stands behind a quote that is next.
+fn behind_quote(bytes: &[u8]) -> Option<&[u8]>
+    ensures { option_map (λ rest. rest.now) result ≡ behind_quote bytes.now }
+{
+    match bytes {
+        [QUOTE, rest @ ..] => Some(rest),
+        _ => None,
     }
 }
 
 /// A reference, behind its bracket.
-fn reference(bytes: &[u8]) -> Result<(Tree, &[u8]), Stop>
-    ensures { Gives tree_behind result (reference_at bytes.now) }
+fn reference<'a>(bytes: &'a [u8], cursor: &mut Cursor<'a>) -> Result<Tree, Stop>
+    ensures { Gives result cursor.new (token_taken cursor.old.tokens (reference_at bytes.now)) }
 {
-    let Some((inside, rest)) = cut(bytes) else {
+    let Some((inside, rest)) = split_once(bytes, b']') else {
         return Err(Stop::Unspelled);
     };
-    match read_ref(inside) {
-        Some(reference) => Ok((Tree::Ref(reference), rest)),
-        None => Err(Stop::Unspelled),
-    }
-}
-
-/// What stands before and behind the first closing bracket.
-fn cut(bytes: &[u8]) -> Option<(&[u8], &[u8])>
-    ensures { MatchOption result (list_any is_closing bytes.now ≡ false)
-        (λ parts. (list_any is_closing bytes.now ≡ true) × (parts.0.now ≡ before_first is_closing bytes.now)
-        × (parts.1.now ≡ after_first is_closing bytes.now)) }
-{
-    let at = closing_at(bytes)?;
-    Some((&bytes[..at], &bytes[at + 1..]))
-}
-
-fn closing_at(bytes: &[u8]) -> Option<usize>
-    ensures { result ≡ position is_closing bytes.now }
-{
-    bytes.iter().position(|byte| *byte == b']')
+    let Some(reference) = read_ref(inside) else {
+        return Err(Stop::Unspelled);
+    };
+    cursor.past(rest)?;
+    Ok(Tree::Ref(reference))
 }
 
 /// An error constant.
-fn error_constant(bytes: &[u8]) -> Result<(Tree, &[u8]), Stop>
-    ensures { Gives tree_behind result (error_at bytes.now) }
+#[cold]
+#[inline(never)]
+fn error_constant(cursor: &mut Cursor<'_>) -> Result<Tree, Stop>
+    ensures { Gives result cursor.new (token_by error_at (unread_of cursor.old)) }
 {
-    match error_in_front(bytes) {
-        Some(fault) => Ok((Tree::Bad(fault), &bytes[fault.text().len()..])),
+    match error_in_front(cursor.bytes) {
+        Some(fault) => {
+            cursor.past(&cursor.bytes[fault.text().len()..])?;
+            Ok(Tree::Bad(fault))
+        }
         None => Err(Stop::Unspelled),
     }
 }
 
 fn error_in_front(bytes: &[u8]) -> Option<Fault>
-    ensures fault { result ≡ find (λ fault. starts_with nat_eq bytes.now (fault_text fault)) error_constants }
-    ensures within { (fault : Fault) → result ≡ Some fault → length (fault_text fault) ≤ length bytes.now }
+    ensures fault { result
+        ≡ find (λ fault. starts_with nat_eq bytes.now (fault_text fault)) error_constants }
+    ensures within { (fault : Fault) → result ≡ Some fault
+        → length (fault_text fault) ≤ length bytes.now }
 {
     ERROR_CONSTANTS
         .iter()

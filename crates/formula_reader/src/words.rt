@@ -1,13 +1,14 @@
+ghost use Rattle.byte_cuts.specs.Fronts.{behind};
 ghost use Rattle.calc_model.specs.Grammar.{in_capitals};
 ghost use Rattle.calc_model.specs.Tokens.{is_in_identifier};
-ghost use Rattle.formula_reader.specs.Rows.{name_read};
-ghost use Rattle.formula_reader.specs.Unread.{Gives, behind, tree_left, unread_of};
+ghost use Rattle.formula_reader.specs.Operands.{name_of};
+ghost use Rattle.formula_reader.specs.Unread.{Makes};
 ghost use Rattle.std.specs.List.{prefix_len, take_while};
 ghost use Rattle.std.specs.Prelude.{IfOk, length, ◌≡◌, ◌≤◌};
 ghost use Rattle.std.specs.Str.{IsUtf8};
 
 use crate::constant::to_text;
-use crate::cursor::{Cursor, Stop};
+use crate::cursor::Stop;
 use calc_addr::NoMemory;
 use calc_model::{Text, Tree, is_in_identifier, is_name};
 use std::alloc::Global;
@@ -31,18 +32,14 @@ fn word_len(bytes: &[u8]) -> usize
         .count()
 }
 
-/// A name, with what is left behind it.
-pub(crate) fn name<'a>(
-    alloc: Global,
-    word: &[u8],
-    rest: Cursor<'a>,
-) -> Result<(Tree, Cursor<'a>), Stop>
-    ensures { Gives tree_left result (name_read word.now (unread_of rest.entry)) }
+/// A name by its word.
+pub(crate) fn name(alloc: Global, word: &[u8]) -> Result<Tree, Stop>
+    ensures { Makes (λ tree. tree) result (name_of word.now) }
 {
     if !is_name(word) {
         return Err(Stop::Unspelled);
     }
-    Ok((Tree::Name(to_text(alloc, word)?), rest))
+    Ok(Tree::Name(to_text(alloc, word)?))
 }
 
 /// The word in capitals of ASCII.

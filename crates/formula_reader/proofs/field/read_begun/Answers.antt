@@ -1,8 +1,8 @@
+use Rattle.formula_reader.proofs.field.read_begun.Goals as goal
 use Rattle.std.proofs.Common.{◌≡◌, Some, sym, ◌∙◌}
 use Rattle.formula_reader.specs.Reading.{formula_of}
-use Rattle.formula_reader.proofs.FormedSpellings.{spelled_formed}
-use Rattle.formula_reader.proofs.FormulasSpelled.{formula_spelled}
-use Rattle.formula_reader.proofs.field.read_begun.Goals as goal
+use Rattle.formula_reader.proofs.Formed.{spelled_formed}
+use Rattle.formula_reader.proofs.Sound.Formulas.{formula_spelled}
 
 pub of-requires : goal.of-requires
 of-requires c =

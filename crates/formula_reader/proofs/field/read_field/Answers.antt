@@ -1,5 +1,5 @@
-use Rattle.formula_reader.proofs.Meaning.{read_only, read_spelled}
 use Rattle.formula_reader.proofs.field.read_field.Goals as goal
+use Rattle.formula_reader.proofs.Meaning.{read_only, read_spelled}
 
 pub returns : goal.returns
 returns c =

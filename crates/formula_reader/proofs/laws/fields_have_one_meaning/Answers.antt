@@ -1,7 +1,7 @@
+use Rattle.formula_reader.proofs.laws.fields_have_one_meaning.Goals as goal
 use Rattle.std.proofs.Common.{sym, ◌∙◌}
 use Rattle.formula_reader.specs.Fields.{field_of}
 use Rattle.formula_reader.proofs.Meaning.{field_reads, meaning_is, one_content}
-use Rattle.formula_reader.proofs.laws.fields_have_one_meaning.Goals as goal
 
 pub returns : goal.returns
 returns c = record {

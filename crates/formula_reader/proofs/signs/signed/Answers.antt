@@ -1,19 +1,12 @@
-use Rattle.std.proofs.Common.{◌≡◌, ◌-◌, ◌<◌, suc, length, take, ap, ◌∙◌, arith}
-use Rattle.formula_reader.specs.Rows.{signed}
-use Rattle.formula_reader.proofs.SignedTrees.{signed_last}
 use Rattle.formula_reader.proofs.signs.signed.Goals as goal
+use Rattle.std.proofs.Common.{◌≡◌, [], ◌∷◌, ◌++◌, ap, sym, ◌∙◌}
+use Rattle.std.specs.Option.{option_to_list}
+use Rattle.formula_reader.specs.Signs.{signed}
+use Rattle.formula_reader.proofs.Turns.{signed_push}
 
-pub loop-left-preserved : goal.loop-left-preserved
-loop-left-preserved c =
-    let front = c.args.front.now in
-    let n = c.loop-left.left - 1 in
-    let less : n < length front = omega (arith, c.loop-left.invariant.within) in
-    let one : suc n ≡ c.loop-left.left = omega arith in
-    record {
-      within = omega (arith, c.loop-left.invariant.within);
-      made =
-          ap (signed (take n front)) c.in_ok-made.ensures
-          ∙ signed_last front n c.loop-left.made less
-          ∙ ap (λ k. signed (take k front) c.loop-left.made) one
-          ∙ c.loop-left.invariant.made;
-    }
+pub loop-sign-preserved : goal.loop-sign-preserved
+loop-sign-preserved c =
+    let rest = c.pop.new.self.items in
+    let sign = c.in-Some.sign in
+    let parts : c.loop-sign.signs.items ≡ rest ++ sign ∷ [] = c.pop.ensures.items ∙ ap (λ last. rest ++ option_to_list last) c.in-Some.is in
+    ap (signed rest) c.in_ok-made.ensures ∙ sym (signed_push rest sign c.loop-sign.made) ∙ sym (ap (λ signs. signed signs c.loop-sign.made) parts) ∙ c.loop-sign.invariant

@@ -1,12 +1,9 @@
-use Rattle.std.proofs.Common.{◌≡◌, ◌≤◌, length, take}
-use Rattle.formula_reader.specs.Rows.{signed}
 use Rattle.formula_reader.proofs.signs.signed.Given as goal
+use Rattle.std.proofs.Common.{◌≡◌, length}
+use Rattle.formula_reader.specs.Signs.{signed}
 
-abbrev pub invariant-loop-left : goal.invariant-loop-left
-invariant-loop-left l = record {
-  within : l.left ≤ length l.front;
-  made : signed (take l.left l.front) l.made ≡ signed l.front l.fn.tree;
-}
+abbrev pub invariant-loop-sign : goal.invariant-loop-sign
+invariant-loop-sign l = signed l.signs.items l.made ≡ signed l.fn.signs.items l.fn.tree
 
-abbrev pub decreases-loop-left : goal.decreases-loop-left
-decreases-loop-left l = l.left
+abbrev pub decreases-loop-sign : goal.decreases-loop-sign
+decreases-loop-sign l = length l.signs.items

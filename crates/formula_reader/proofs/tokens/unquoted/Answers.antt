@@ -1,40 +1,43 @@
-use Rattle.std.proofs.Common.{◌≡◌, ◌+◌, ◌<◌, ℕ, Bool, true, false, List, [], ◌∷◌, ◌++◌, Vec, Global, get_or, length, drop, ap, sym, ◌∙◌, add-one, drop-cons}
-use Rattle.std.specs.Prelude.{◌==◌}
-use Rattle.std.specs.Bool.{beq}
-use Rattle.formula_reader.specs.Leaves.{unquoted}
-use Rattle.formula_reader.proofs.Unquoting.{beq_other, beq_same, prepended, prepended_push, unquoted_pass, unquoted_push}
 use Rattle.formula_reader.proofs.tokens.unquoted.Goals as goal
-use Rattle.formula_reader.proofs.tokens.unquoted.Goals.{then-is_quote-quote_passed+in_ok-push, else-is_quote-quote_passed+else-quote_passed}
+use Rattle.std.proofs.Common.{◌≤◌, ◌+◌, ◌++◌, ◌∷◌, [], Some, false, length, ap, sym, ◌∙◌, arith}
+use Rattle.std.specs.List.{position_or_len}
+use Rattle.std.proofs.lemmas.List.{append-nil, length-drop}
+use Rattle.formula_reader.specs.Leaves.{unquoted}
+use Rattle.formula_reader.proofs.Unquoting.{is_quote, prepended, prepended_none, prepended_push, quote_ends, quoteless, run_read, second_quote}
 
--- the loop's step, where it pushes the byte, and where it passes a quote
-pushes : (text new bytes : List ℕ) (passed later : Bool) (at : ℕ) → at < length bytes → beq (get_or bytes at 0 == 34) passed ≡ true → new ≡ text ++ get_or bytes at 0 ∷ [] → later ≡ false → prepended new (unquoted later (drop (at + 1) bytes)) ≡ prepended text (unquoted passed (drop at bytes))
-pushes text new bytes passed later at less same made ends =
-    let byte = get_or bytes at 0 in
-    let rest = drop (at + 1) bytes in
-    let parts : drop at bytes ≡ byte ∷ rest = rw (add-one) (drop-cons bytes at 0 less) in
-    ap (λ b. prepended new (unquoted b rest)) ends
-    ∙ ap (λ t. prepended t (unquoted false rest)) made
-    ∙ prepended_push text byte (unquoted false rest)
-    ∙ ap (prepended text) (sym (ap (unquoted passed) parts ∙ unquoted_push passed byte rest (beq_same (byte == 34) passed same)))
+pub loop-run-init : goal.loop-run-init
+loop-run-init c = ap (λ text. prepended text (unquoted false c.args.bytes.now)) c.new-text.ensures.items ∙ prepended_none (unquoted false c.args.bytes.now)
 
-passes : (text bytes : List ℕ) (passed later : Bool) (at : ℕ) → at < length bytes → beq (get_or bytes at 0 == 34) passed ≡ false → passed ≡ false → later ≡ true → prepended text (unquoted later (drop (at + 1) bytes)) ≡ prepended text (unquoted passed (drop at bytes))
-passes text bytes passed later at less other first quote =
-    let byte = get_or bytes at 0 in
-    let rest = drop (at + 1) bytes in
-    let parts : drop at bytes ≡ byte ∷ rest = rw (add-one) (drop-cons bytes at 0 less) in
-    ap (λ b. prepended text (unquoted b rest)) quote
-    ∙ ap (prepended text) (sym (ap (λ b. unquoted b (drop at bytes)) first ∙ ap (unquoted false) parts ∙ unquoted_pass byte rest (beq_other (byte == 34) passed other first)))
+pub loop-run-smaller : goal.loop-run-smaller
+loop-run-smaller c =
+    let left = c.loop-run.left.now in
+    let rest = c.in-Some.rest.now in
+    let less = (second_quote rest c.in-Some-behind_quote.more.now (sym c.in-Some-behind_quote.ensures)).1 in
+    let shorter : length rest ≤ length left = omega (arith, ap length c.in-Some.ensures.2, length-drop (position_or_len is_quote left + 1) left) in
+    omega arith
 
-pub loop-at-preserved : goal.loop-at-preserved
-loop-at-preserved c =
-    let text = c.loop-at.text.items in
-    let bytes = c.args.bytes.now in
-    let passed = c.loop-at.quote_passed in
-    let at = c.loop-at.at in
-    elim c.if-is_quote-quote_passed.branch [
-      | then-is_quote-quote_passed+in_ok-push w ↦
-          pushes text c.if-is_quote-quote_passed.text.items bytes passed c.if-is_quote-quote_passed.quote_passed at c.loop-at-test.true w.if-is_quote-quote_passed.true (ap (λ (t : Vec ℕ Global). t.items) w.text-is ∙ w.in_ok-push.ensures.items) w.quote_passed-is ∙ c.loop-at.invariant
-      | else-is_quote-quote_passed+else-quote_passed w ↦
-          ap (λ (t : Vec ℕ Global). prepended t.items (unquoted c.if-is_quote-quote_passed.quote_passed (drop (at + 1) bytes))) w.text-is
-          ∙ passes text bytes passed c.if-is_quote-quote_passed.quote_passed at c.loop-at-test.true w.if-is_quote-quote_passed.false w.if-quote_passed.false w.quote_passed-is ∙ c.loop-at.invariant
-    ]
+pub loop-run-preserved : goal.loop-run-preserved
+loop-run-preserved c =
+    let text = c.loop-run.text.items in
+    let more = c.in-Some-behind_quote.more.now in
+    let rest = c.in-Some.rest.now in
+    let parts = c.in-Some.ensures in
+    ap (λ t. prepended t (unquoted false more)) (c.in_ok-push-in-Some-behind_quote.ensures.items ∙ ap (λ t. t ++ 34 ∷ []) c.in_ok-extend_from_slice.ensures.items)
+    ∙ prepended_push (text ++ c.in-Some.run'.now) 34 (unquoted false more)
+    ∙ ap (prepended (text ++ c.in-Some.run'.now)) (sym (second_quote rest more (sym c.in-Some-behind_quote.ensures)).0)
+    ∙ sym (run_read text c.in-Some.run'.now c.loop-run.left.now rest parts.0 parts.1 parts.2)
+    ∙ c.loop-run.invariant
+
+pub returns-in-None : goal.returns-in-None
+returns-in-None c =
+    let text = c.loop-run.text.items in
+    let run = c.in-Some.run'.now in
+    let rest = c.in-Some.rest.now in
+    let parts = c.in-Some.ensures in
+    sym c.loop-run.invariant
+    ∙ run_read text run c.loop-run.left.now rest parts.0 parts.1 parts.2
+    ∙ ap (prepended (text ++ run)) (quote_ends rest (sym c.in-None.ensures))
+    ∙ ap (λ t. Some (t, rest)) (append-nil (text ++ run) ∙ sym c.in_ok-extend_from_slice.ensures.items)
+
+pub returns : goal.returns
+returns c = sym c.loop-run.invariant ∙ ap (prepended c.loop-run.text.items) (quoteless c.loop-run.left.now c.in_default.ensures)

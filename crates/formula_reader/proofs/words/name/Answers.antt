@@ -1,6 +1,6 @@
+use Rattle.formula_reader.proofs.words.name.Goals as goal
 use Rattle.std.proofs.Common.{sym, ◌∙◌}
 use Rattle.formula_reader.proofs.Identifiers.{identifier_IsUtf8, name_is_identifier}
-use Rattle.formula_reader.proofs.words.name.Goals as goal
 
 pub to_text-requires : goal.to_text-requires
 to_text-requires c =
