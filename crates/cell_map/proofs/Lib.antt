@@ -4,3 +4,4 @@ pub mod Lookups
 pub mod Lengths
 -- a map stays a book
 pub mod Kept
+pub mod Columns
