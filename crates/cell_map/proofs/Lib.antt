@@ -5,3 +5,4 @@ pub mod Lengths
 -- a map stays a book
 pub mod Kept
 pub mod Columns
+pub mod Emptying

@@ -1,11 +1,35 @@
-ghost use Rattle.std.specs.Prelude.{◌≡◌, ◌≤◌, true, None, IfNone, IfSome};
-ghost use Rattle.std.specs.BTreeMap.{get};
+ghost use Rattle.std.specs.Prelude.{◌≡◌, ◌<◌, ◌≤◌, true, length, None, IfNone, IfSome, IsSome};
+ghost use Rattle.std.specs.BTreeMap.{get, is_at};
+ghost use Rattle.std.specs.Map.{remove_entry};
 ghost use Rattle.calc_addr.specs.Places.{Place, covers, place_cmp};
+ghost use Rattle.calc_model.specs.Step.{without_area};
 ghost use Rattle.cell_map.specs.Runs.{IsFirst, IsNone, is_ahead, is_in_run};
 
 use calc_addr::{Area, Cell};
 use calc_model::Content;
 use std::collections::BTreeMap;
+
+/// Empties the cells of an area. It takes the logarithm of the map for each column of the area and for
+/// each cell that it empties.
+pub(crate) fn remove_area(cells: &mut BTreeMap<Cell, Content>, area: Area)
+    ensures { cells.new.entries ≡ without_area cells.old.entries area }
+{
+    let mut from = area.corner();
+    while let Some(cell) = first_in(cells, area, from) {
+        take_out(cells, cell);
+        from = cell;
+    }
+}
+
+/// Empties a cell that isn't empty.
+fn take_out(cells: &mut BTreeMap<Cell, Content>, cell: Cell)
+    requires { IsSome (get place_cmp cells.old cell) }
+    ensures entries { cells.new.entries ≡ remove_entry (is_at (place_cmp cell)) cells.old.entries }
+    ensures fewer { length cells.new.entries < length cells.old.entries }
+    ensures none { (q : Place) → get place_cmp cells.old q ≡ None → get place_cmp cells.new q ≡ None }
+{
+    cells.remove(&cell);
+}
 
 /// The first cell of the map that lies in the area, from a cell of it on in the order of cells. It takes
 /// the logarithm of the map for each column.
