@@ -7,6 +7,7 @@
 mod areas;
 mod eval;
 mod known;
+mod order;
 mod reading;
 mod sweep;
 
