@@ -1,20 +1,13 @@
-pub mod AsciiTexts
-pub mod Columns
-pub mod Cuts
-pub mod Digits
-pub mod EndsInOrder
-pub mod Joined
-mod Examples
-mod ShiftExamples
-pub mod MoveLaws
-pub mod Moving
-pub mod Order
-pub mod Places
-pub mod ReferenceInside
-pub mod ReferenceTrip
-pub mod RoundTrip
+-- Where what is shown stands.
+-- Walking: the cells of an area and their order.
+-- Spelling: what words spell, and that printed addresses read back.
+-- References: references of formulas.
+-- Moving: references of a formula that moves.
+-- Shifting: references when rows are inserted and deleted.
+-- Examples: worked examples.
 pub mod Walking
-pub mod ShiftLaws
+pub mod Spelling
+pub mod References
+pub mod Moving
 pub mod Shifting
-pub mod SpelledInside
-pub mod ReferenceTests
+mod Examples

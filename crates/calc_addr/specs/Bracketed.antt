@@ -1,9 +1,10 @@
 -- What stands between the brackets of a formula's reference: the sheet where one is written, `.`, and
 -- a cell, or two cells, columns or rows with `:.` between them, as in `.A1`, `$Sheet2.$A$1:.B2`,
 -- `.A:.C` and `.1:.3`. A dollar sign before a coordinate marks it.
-use Rattle.std.specs.Prelude.{ℕ, Bool, false, ◌-◌, ◌&&◌, ◌==◌, nat_le, if◌then◌else◌, List, [], ◌∷◌, ◌++◌, length, take, drop, slice_index, codes, decimal, Option, Some, None, option_map, option_and_then}
+use Rattle.std.specs.Prelude.{◌≡◌, ◌≤◌, ℕ, Bool, false, ◌-◌, ◌&&◌, ◌==◌, nat_le, if◌then◌else◌, List, [], ◌∷◌, ◌++◌, length, take, drop, slice_index, codes, decimal, Option, Some, None, option_map, option_and_then}
 use Rattle.std.specs.List.{list_any, before_first, after_first}
 use Rattle.std.specs.Option.{option_or}
+use Rattle.calc_addr.specs.declared.cell.TheConstants.{LAST_SHEET, LAST_COL, LAST_ROW}
 use Rattle.calc_addr.specs.Addresses.{sheet_word}
 use Rattle.calc_addr.specs.Ends.{in_order, whole, reference_of, cols_of, rows_of}
 use Rattle.calc_addr.specs.Letters.{column_letters}
@@ -46,16 +47,21 @@ row_end text = end_of text (inside (row_of (undollared text)))
 abbrev pub corner_ends : List ℕ → Option (End × End)
 corner_ends text = together (λ col row. (col, row)) (column_end (column_part text)) (row_end (row_part text))
 
--- the sheet before the point: its word, which a dollar sign and quotes may go with, or none
-abbrev pub unquoted : List ℕ → List ℕ
-unquoted text =
+-- a sheet's name without the quotes round it
+abbrev pub bare_name : List ℕ → List ℕ
+bare_name text =
     if (slice_index text 0 == 39) && (slice_index text (length text - 1) == 39) && nat_le 2 (length text)
     then take (length text - 2) (drop 1 text) else text
 
+-- the sheet before the point: its name, which a dollar sign and quotes may go with, or none
 abbrev pub written_sheet : List ℕ → Option (Option ℕ)
 written_sheet text =
     if length text == 0 then Some None
-    else option_map (λ sheet. Some sheet) (inside (sheet_of (unquoted (undollared text))))
+    else option_map (λ sheet. Some sheet) (inside (sheet_of (bare_name (undollared text))))
+
+-- the sheet of a reference, where one is written
+abbrev pub IsSheet : Option ℕ → Type 0
+IsSheet sheet = (n : ℕ) → sheet ≡ Some n → n ≤ LAST_SHEET
 
 -- what follows a point in front
 abbrev pub after_point : List ℕ → Option (List ℕ)
@@ -74,11 +80,11 @@ two_cells sheet first last =
 
 abbrev pub two_columns : Option ℕ → List ℕ → List ℕ → Option Reference
 two_columns sheet first last =
-    together (λ a b. reference_of sheet span.Columns (in_order a b) (whole 1048576)) (column_end first) (column_end last)
+    together (λ a b. reference_of sheet span.Columns (in_order a b) (whole LAST_ROW)) (column_end first) (column_end last)
 
 abbrev pub two_rows : Option ℕ → List ℕ → List ℕ → Option Reference
 two_rows sheet first last =
-    together (λ a b. reference_of sheet span.Rows (whole 1024) (in_order a b)) (row_end first) (row_end last)
+    together (λ a b. reference_of sheet span.Rows (whole LAST_COL) (in_order a b)) (row_end first) (row_end last)
 
 abbrev pub two_ends : Option ℕ → List ℕ → List ℕ → Option Reference
 two_ends sheet first last =

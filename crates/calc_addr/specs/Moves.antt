@@ -3,6 +3,7 @@
 -- are then put in order on each axis, each with its mark. Whole columns have no coordinates in rows,
 -- and whole rows have none in columns. A written sheet stays.
 use Rattle.std.specs.Prelude.{◌≡◌, ◌⊎◌, ℕ, ℤ, pos, ◌+ℤ◌, int_le, unsigned_abs, ◌&&◌, if◌then◌else◌, Option, Some, None, option_map}
+use Rattle.calc_addr.specs.declared.cell.TheConstants.{LAST_COL, LAST_ROW}
 use Rattle.calc_addr.specs.Bracketed.{together}
 use Rattle.calc_addr.specs.Ends.{in_order, cols_of, rows_of}
 use Rattle.calc_addr.specs.References.{Reference}
@@ -25,16 +26,16 @@ abbrev pub moved_ends : ℕ → ℤ → Ends → Option Ends
 moved_ends last distance ends = together in_order (moved_end last distance ends.first) (moved_end last distance ends.last)
 
 abbrev pub moved_cols : Span → ℤ → Ends → Option Ends
-moved_cols span.One distance ends = moved_ends 1024 distance ends
-moved_cols span.Cells distance ends = moved_ends 1024 distance ends
-moved_cols span.Columns distance ends = moved_ends 1024 distance ends
+moved_cols span.One distance ends = moved_ends LAST_COL distance ends
+moved_cols span.Cells distance ends = moved_ends LAST_COL distance ends
+moved_cols span.Columns distance ends = moved_ends LAST_COL distance ends
 moved_cols span.Rows distance ends = Some ends
 
 abbrev pub moved_rows : Span → ℤ → Ends → Option Ends
-moved_rows span.One distance ends = moved_ends 1048576 distance ends
-moved_rows span.Cells distance ends = moved_ends 1048576 distance ends
+moved_rows span.One distance ends = moved_ends LAST_ROW distance ends
+moved_rows span.Cells distance ends = moved_ends LAST_ROW distance ends
 moved_rows span.Columns distance ends = Some ends
-moved_rows span.Rows distance ends = moved_ends 1048576 distance ends
+moved_rows span.Rows distance ends = moved_ends LAST_ROW distance ends
 
 -- the reference with other ends
 abbrev pub with_ends : Reference → Ends → Ends → Reference

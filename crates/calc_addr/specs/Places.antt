@@ -5,6 +5,7 @@ use Rattle.std.specs.List.{flat_map, range_with_len}
 use Rattle.std.specs.Ordering.{nat_cmp, ordering_then}
 use Rattle.std.specs.declared.cmp.Ordering.{Ordering}
 use Rattle.std.specs.declared.cmp.Ordering.TheVariants.{Less}
+use Rattle.calc_addr.specs.declared.cell.TheConstants.{LAST_SHEET, LAST_COL, LAST_ROW}
 
 -- where a cell lies
 pub record Place : Type 0 where
@@ -14,11 +15,11 @@ pub record Place : Type 0 where
 
 -- the place is one of a sheet
 pub record IsPlace (p : Place) : Type 0 where
-  pub sheet_in : p.sheet ≤ 15
+  pub sheet_in : p.sheet ≤ LAST_SHEET
   pub col_from : 1 ≤ p.col
-  pub col_to : p.col ≤ 1024
+  pub col_to : p.col ≤ LAST_COL
   pub row_from : 1 ≤ p.row
-  pub row_to : p.row ≤ 1048576
+  pub row_to : p.row ≤ LAST_ROW
 
 -- the order of cells: by sheet, then column, then row
 abbrev pub place_cmp : Place → Place → Ordering
@@ -38,13 +39,13 @@ pub record Rectangle : Type 0 where
 
 -- the ends are in order, and lie in the sheet
 pub record IsRectangle (a : Rectangle) : Type 0 where
-  pub sheet_in : a.sheet ≤ 15
+  pub sheet_in : a.sheet ≤ LAST_SHEET
   pub cols_from : 1 ≤ a.first_col
   pub cols_in_order : a.first_col ≤ a.last_col
-  pub cols_to : a.last_col ≤ 1024
+  pub cols_to : a.last_col ≤ LAST_COL
   pub rows_from : 1 ≤ a.first_row
   pub rows_in_order : a.first_row ≤ a.last_row
-  pub rows_to : a.last_row ≤ 1048576
+  pub rows_to : a.last_row ≤ LAST_ROW
 
 -- whether the rectangle has the cell
 abbrev pub covers : Rectangle → Place → Bool
@@ -123,9 +124,9 @@ pub record Rows : Type 0 where
 
 -- the rows are in order, and lie in the sheet
 pub record IsRows (r : Rows) : Type 0 where
-  pub sheet_in : r.sheet ≤ 15
+  pub sheet_in : r.sheet ≤ LAST_SHEET
   pub col_from : 1 ≤ r.col
-  pub col_to : r.col ≤ 1024
+  pub col_to : r.col ≤ LAST_COL
   pub from : 1 ≤ r.first
   pub in_order : r.first ≤ r.last
-  pub to : r.last ≤ 1048576
+  pub to : r.last ≤ LAST_ROW

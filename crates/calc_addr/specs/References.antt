@@ -1,5 +1,6 @@
 -- References of formulas: an area, how it was spelled, and which parts were marked.
 use Rattle.std.specs.Prelude.{◌≡◌, false, if◌then◌else◌}
+use Rattle.calc_addr.specs.declared.cell.TheConstants.{LAST_COL, LAST_ROW}
 use Rattle.calc_addr.specs.Places.{Rectangle, IsRectangle, Place}
 use Rattle.calc_addr.specs.declared.reference.Span.{Span}
 use Rattle.calc_addr.specs.declared.reference.Span.TheVariants.{One, Cells, Columns, Rows}
@@ -20,14 +21,14 @@ pub record IsOne (a : Rectangle) (m : Marks) : Type 0 where
 -- all rows, without marks
 pub record AreColumns (a : Rectangle) (m : Marks) : Type 0 where
   pub from_top : a.first_row ≡ 1
-  pub to_end : a.last_row ≡ 1048576
+  pub to_end : a.last_row ≡ LAST_ROW
   pub first_unmarked : m.first_row ≡ false
   pub last_unmarked : m.last_row ≡ false
 
 -- all columns, without marks
 pub record AreRows (a : Rectangle) (m : Marks) : Type 0 where
   pub from_left : a.first_col ≡ 1
-  pub to_end : a.last_col ≡ 1024
+  pub to_end : a.last_col ≡ LAST_COL
   pub first_unmarked : m.first_col ≡ false
   pub last_unmarked : m.last_col ≡ false
 

@@ -2,11 +2,12 @@
 -- The first and the last row of the area go with the sheet's rows. An area that has all rows stays,
 -- however it was spelled and also where all rows are deleted. Marks say nothing here.
 use Rattle.std.specs.Prelude.{ℕ, Bool, ◌+◌, ◌-◌, ◌&&◌, ◌==◌, nat_le, nat_lt, min, if◌then◌else◌, Option, Some, None, option_map}
+use Rattle.calc_addr.specs.declared.cell.TheConstants.{LAST_ROW}
 use Rattle.calc_addr.specs.Places.{Place, Rectangle}
 use Rattle.calc_addr.specs.References.{Reference}
 
 abbrev pub has_all_rows : Rectangle → Bool
-has_all_rows a = (a.first_row == 1) && (a.last_row == 1048576)
+has_all_rows a = (a.first_row == 1) && (a.last_row == LAST_ROW)
 
 abbrev pub with_rows : Rectangle → ℕ → ℕ → Rectangle
 with_rows a first last = record a { first_row = first; last_row = last }
@@ -21,7 +22,7 @@ area_after_insertion place count a =
     let first = row_after_insertion place count a.first_row in
     let last = row_after_insertion place count a.last_row in
     if has_all_rows a then Some a
-    else (if nat_le first 1048576 then Some (with_rows a first (min last 1048576)) else None)
+    else (if nat_le first LAST_ROW then Some (with_rows a first (min last LAST_ROW)) else None)
 
 -- so many rows from the place on are deleted: those after them move up
 abbrev pub is_deleted : ℕ → ℕ → ℕ → Bool

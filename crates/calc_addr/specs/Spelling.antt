@@ -5,6 +5,7 @@ use Rattle.std.specs.Prelude.{ℕ, Bool, false, not, ◌-◌, ◌&&◌, ◌==◌
 use Rattle.std.specs.List.{list_all, list_any, prefix_len, before_first, after_first, starts_with}
 use Rattle.std.specs.Char.{is_ascii_alphabetic, is_ascii_digit, to_ascii_lowercase}
 use Rattle.std.specs.Str.Parse.{digits_value}
+use Rattle.calc_addr.specs.declared.cell.TheConstants.{LAST_SHEET, LAST_COL, LAST_ROW}
 use Rattle.calc_addr.specs.Places.{Place, Rectangle}
 use Rattle.calc_addr.specs.Letters.{column_number}
 use Rattle.calc_addr.specs.declared.read.Spelled.{Spelled}
@@ -46,10 +47,10 @@ are_digits_or_zero (c ∷ []) = is_ascii_digit c
 are_digits_or_zero (c ∷ d ∷ ds) = are_digits (c ∷ d ∷ ds)
 
 abbrev pub column_of : List ℕ → Spelled ℕ
-column_of letters = if are_letters letters then up_to 1024 (column_number letters) else Not
+column_of letters = if are_letters letters then up_to LAST_COL (column_number letters) else Not
 
 abbrev pub row_of : List ℕ → Spelled ℕ
-row_of digits = if are_digits digits then up_to 1048576 (digits_value 10 digits) else Not
+row_of digits = if are_digits digits then up_to LAST_ROW (digits_value 10 digits) else Not
 
 -- how many bytes the letters at the front take, with a dollar sign before them
 abbrev pub column_len : List ℕ → ℕ
@@ -95,7 +96,7 @@ from_zero Outside = Outside
 from_zero Not = Not
 
 abbrev pub sheet_number : List ℕ → Spelled ℕ
-sheet_number digits = if are_digits_or_zero digits then from_zero (up_to 16 (digits_value 10 digits)) else Not
+sheet_number digits = if are_digits_or_zero digits then from_zero (up_to (LAST_SHEET + 1) (digits_value 10 digits)) else Not
 
 -- the letters `sheet` in either case, then a number
 abbrev pub sheet_of : List ℕ → Spelled ℕ

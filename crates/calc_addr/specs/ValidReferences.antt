@@ -1,6 +1,7 @@
 -- A test of the references that a formula can have: the area lies in the sheets with its ends in order, its
 -- spelling fits it, and without a written sheet the area's sheet is 0.
 use Rattle.std.specs.Prelude.{not, ◌==◌, ◌&&◌, ◌||◌, nat_le, Bool, true, false}
+use Rattle.calc_addr.specs.declared.cell.TheConstants.{LAST_SHEET, LAST_COL, LAST_ROW}
 use Rattle.calc_addr.specs.Places.{Rectangle}
 use Rattle.calc_addr.specs.References.{Reference}
 use Rattle.calc_addr.specs.declared.reference.Span.{Span}
@@ -9,9 +10,9 @@ use Rattle.calc_addr.specs.declared.reference.Marks.{Marks}
 
 abbrev pub is_rectangle : Rectangle → Bool
 is_rectangle a =
-    nat_le a.sheet 15
-    && nat_le 1 a.first_col && nat_le a.first_col a.last_col && nat_le a.last_col 1024
-    && nat_le 1 a.first_row && nat_le a.first_row a.last_row && nat_le a.last_row 1048576
+    nat_le a.sheet LAST_SHEET
+    && nat_le 1 a.first_col && nat_le a.first_col a.last_col && nat_le a.last_col LAST_COL
+    && nat_le 1 a.first_row && nat_le a.first_row a.last_row && nat_le a.last_row LAST_ROW
 
 -- both marked or both unmarked
 abbrev pub are_alike : Bool → Bool → Bool
@@ -23,8 +24,8 @@ abbrev pub is_spanned : Span → Rectangle → Marks → Bool
 is_spanned One a m =
     (a.first_col == a.last_col) && (a.first_row == a.last_row) && are_alike m.first_col m.last_col && are_alike m.first_row m.last_row
 is_spanned Cells a m = true
-is_spanned Columns a m = (a.first_row == 1) && (a.last_row == 1048576) && not m.first_row && not m.last_row
-is_spanned Rows a m = (a.first_col == 1) && (a.last_col == 1024) && not m.first_col && not m.last_col
+is_spanned Columns a m = (a.first_row == 1) && (a.last_row == LAST_ROW) && not m.first_row && not m.last_row
+is_spanned Rows a m = (a.first_col == 1) && (a.last_col == LAST_COL) && not m.first_col && not m.last_col
 
 -- a reference that a formula can have
 unfoldable pub is_valid_reference : Reference → Bool

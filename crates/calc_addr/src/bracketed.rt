@@ -1,30 +1,32 @@
-ghost use Rattle.calc_addr.specs.Bracketed.{after_point, column_end, corner_ends, is_marked, one_cell, row_end, spelled_reference, spelled_span, two_cells, two_columns, two_ends, two_rows, unquoted, written_sheet};
+ghost use Rattle.calc_addr.specs.Bracketed.{IsSheet, after_point, column_end, corner_ends, is_marked, one_cell, row_end, spelled_reference, spelled_span, two_cells, two_columns, two_ends, two_rows, bare_name, written_sheet};
 ghost use Rattle.calc_addr.specs.Ends.{AreEnds, reference_of};
 ghost use Rattle.calc_addr.specs.References.{IsSpanned};
 ghost use Rattle.std.specs.Prelude.{IfSome, option_map, ℕ, ◌≡◌, ◌≤◌};
 
-use crate::cell::{Area, LAST_COL, LAST_ROW};
+use crate::cell::{Area, LAST_COL, LAST_ROW, LAST_SHEET};
 use crate::ends::{End, Ends, in_order};
-use crate::pieces::{cell_parts, cut, read_column, read_row_number, read_sheet, undollared};
+use crate::pieces::{cell_parts, read_column, read_row_number, read_sheet, undollared};
 use crate::read::Spelled;
 use crate::reference::{Marks, Ref, Span};
+use byte_cuts::split_once;
 
 /// The sheet that stands before the point, if one is written.
 fn read_written_sheet(text: &[u8]) -> Option<Option<u8>>
     ensures sheet { result ≡ written_sheet text.now }
-    ensures inside { (n : ℕ) → result ≡ Some (Some n) → n ≤ 15 }
+    ensures inside { IfSome result IsSheet }
 {
     if text.is_empty() {
         return Some(None);
     }
-    match read_sheet(unquoted(undollared(text))) {
+    match read_sheet(bare_name(undollared(text))) {
         Spelled::Is(sheet) => Some(Some(sheet)),
         Spelled::Outside | Spelled::Not => None,
     }
 }
 
-fn unquoted(text: &[u8]) -> &[u8]
-    ensures { result.now ≡ unquoted text.now }
+/// A sheet's name without the quotes round it.
+fn bare_name(text: &[u8]) -> &[u8]
+    ensures { result.now ≡ bare_name text.now }
 {
     match text {
         [b'\'', word @ .., b'\''] => word,
@@ -83,7 +85,7 @@ fn read_corner(text: &[u8]) -> Option<(End, End)>
 }
 
 fn reference(sheet: Option<u8>, span: Span, cols: Ends, rows: Ends) -> Ref
-    requires sheet { (n : ℕ) → sheet ≡ Some n → n ≤ 15 }
+    requires sheet { IsSheet sheet }
     requires cols { AreEnds LAST_COL cols }
     requires rows { AreEnds LAST_ROW rows }
     requires span { IsSpanned span (reference_of sheet span cols rows).area (reference_of sheet span cols rows).marks }
@@ -109,7 +111,7 @@ fn reference(sheet: Option<u8>, span: Span, cols: Ends, rows: Ends) -> Ref
 }
 
 fn one_cell(sheet: Option<u8>, text: &[u8]) -> Option<Ref>
-    requires { (n : ℕ) → sheet ≡ Some n → n ≤ 15 }
+    requires { IsSheet sheet }
     ensures { result ≡ one_cell sheet text.now }
 {
     let (col, row) = read_corner(text)?;
@@ -117,7 +119,7 @@ fn one_cell(sheet: Option<u8>, text: &[u8]) -> Option<Ref>
 }
 
 fn two_cells(sheet: Option<u8>, first: &[u8], last: &[u8]) -> Option<Ref>
-    requires { (n : ℕ) → sheet ≡ Some n → n ≤ 15 }
+    requires { IsSheet sheet }
     ensures { result ≡ two_cells sheet first.now last.now }
 {
     let (first_col, first_row) = read_corner(first)?;
@@ -128,7 +130,7 @@ fn two_cells(sheet: Option<u8>, first: &[u8], last: &[u8]) -> Option<Ref>
 }
 
 fn two_columns(sheet: Option<u8>, first: &[u8], last: &[u8]) -> Option<Ref>
-    requires { (n : ℕ) → sheet ≡ Some n → n ≤ 15 }
+    requires { IsSheet sheet }
     ensures { result ≡ two_columns sheet first.now last.now }
 {
     let cols = in_order(read_column_end(first)?, read_column_end(last)?);
@@ -136,7 +138,7 @@ fn two_columns(sheet: Option<u8>, first: &[u8], last: &[u8]) -> Option<Ref>
 }
 
 fn two_rows(sheet: Option<u8>, first: &[u8], last: &[u8]) -> Option<Ref>
-    requires { (n : ℕ) → sheet ≡ Some n → n ≤ 15 }
+    requires { IsSheet sheet }
     ensures { result ≡ two_rows sheet first.now last.now }
 {
     let rows = in_order(read_row_end(first)?, read_row_end(last)?);
@@ -144,7 +146,7 @@ fn two_rows(sheet: Option<u8>, first: &[u8], last: &[u8]) -> Option<Ref>
 }
 
 fn two_ends(sheet: Option<u8>, first: &[u8], last: &[u8]) -> Option<Ref>
-    requires { (n : ℕ) → sheet ≡ Some n → n ≤ 15 }
+    requires { IsSheet sheet }
     ensures { result ≡ two_ends sheet first.now last.now }
 {
     two_cells(sheet, first, last)
@@ -153,10 +155,10 @@ fn two_ends(sheet: Option<u8>, first: &[u8], last: &[u8]) -> Option<Ref>
 }
 
 fn read_span(sheet: Option<u8>, text: &[u8]) -> Option<Ref>
-    requires { (n : ℕ) → sheet ≡ Some n → n ≤ 15 }
+    requires { IsSheet sheet }
     ensures { result ≡ spelled_span sheet text.now }
 {
-    match cut(text, b':') {
+    match split_once(text, b':') {
         None => one_cell(sheet, text),
         Some((first, rest)) => two_ends(sheet, first, after_point(rest)?),
     }
@@ -167,6 +169,6 @@ fn read_span(sheet: Option<u8>, text: &[u8]) -> Option<Ref>
 pub fn read_ref(text: &[u8]) -> Option<Ref>
     ensures { result ≡ spelled_reference text.now }
 {
-    let (sheet, span) = cut(text, b'.')?;
+    let (sheet, span) = split_once(text, b'.')?;
     read_span(read_written_sheet(sheet)?, span)
 }

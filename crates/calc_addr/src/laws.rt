@@ -11,11 +11,13 @@ ghost use Rattle.std.specs.Prelude.{AllPairs, Contains, List, false, length, neg
 use crate::cell::LAST_ROW;
 
 /// What is printed for a cell is read as that cell.
+#[tactic(auto, using(crate::proofs::Spelling::RoundTrip::cells_read_back))]
 pub fn cells_read_back()
     ensures { (p : Place) → IsPlace p → spelled_cell (address p) ≡ Is p }
 {}
 
 /// What is printed for a reference is read as that reference.
+#[tactic(auto, using(crate::proofs::References::RoundTrip::references_read_back))]
 pub fn references_read_back()
     ensures { (r : Reference) → IsRectangle r.area → IsReference r → spelled_reference (printed_reference r) ≡ Some r }
 {}

@@ -1,4 +1,4 @@
-//! Cells, areas and references on sixteen sheets, and the words that spell them.
+//! Cells, areas and references (OpenFormula, 5.8) on sixteen sheets, and the words that spell them.
 //!
 //! A sheet has the columns 1 to 1,024 (`A` to `AMJ`) and the rows 1 to 1,048,576. The order of cells
 //! is by sheet, then column, then row; within an area this is area order. A text is read in time

@@ -1,28 +1,17 @@
 ghost use Rattle.calc_addr.specs.Letters.{column_number};
 ghost use Rattle.calc_addr.specs.Spelling.{are_digits, are_digits_or_zero, are_letters, column_len, column_of, column_part, row_of, row_part, sheet_number, sheet_of, undollared};
 ghost use Rattle.std.specs.Char.{is_ascii_alphabetic, to_ascii_lowercase};
-ghost use Rattle.std.specs.List.{after_first, before_first, list_any, position, prefix_len, starts_with};
-ghost use Rattle.std.specs.Prelude.{MatchOption, codes, false, length, if◌then◌else◌, map, min, nat_eq, true, ◌-◌, ◌==◌, ◌^◌, ◌≡◌, ◌≤◌};
+ghost use Rattle.std.specs.List.{prefix_len, starts_with};
+ghost use Rattle.std.specs.Prelude.{codes, length, if◌then◌else◌, map, min, nat_eq, ◌-◌, ◌^◌, ◌≡◌, ◌≤◌};
 ghost use Rattle.std.specs.Str.Parse.{digits_value};
 
-use crate::cell::LAST_ROW;
+use crate::cell::{LAST_COL, LAST_ROW, LAST_SHEET};
 use crate::read::Spelled;
 
-/// What stands before and after the first byte `mark`.
-pub(crate) fn cut(text: &[u8], mark: u8) -> Option<(&[u8], &[u8])>
-    ensures { MatchOption result (list_any (λ c. c == mark) text.now ≡ false)
-        (λ parts. (list_any (λ c. c == mark) text.now ≡ true) × (parts.0.now ≡ before_first (λ c. c == mark) text.now)
-        × (parts.1.now ≡ after_first (λ c. c == mark) text.now)) }
-{
-    let at = place_of(text, mark)?;
-    Some((&text[..at], &text[at + 1..]))
-}
-
-fn place_of(text: &[u8], mark: u8) -> Option<usize>
-    ensures { result ≡ position (λ c. c == mark) text.now }
-{
-    text.iter().position(|byte| *byte == mark)
-}
+/// How many columns a sheet has.
+const COLS: u32 = LAST_COL as u32;
+/// How many sheets there are.
+const SHEETS: u32 = LAST_SHEET as u32 + 1;
 
 /// The text without a dollar sign in front.
 pub(crate) fn undollared(text: &[u8]) -> &[u8]
@@ -77,7 +66,7 @@ pub(crate) fn read_column(letters: &[u8]) -> Spelled<u16>
 {
     match column_number(letters) {
         None => Spelled::Not,
-        Some(number @ 1..=1_024) => Spelled::Is(number as u16),
+        Some(number @ 1..=COLS) => Spelled::Is(number as u16),
         Some(_) => Spelled::Outside,
     }
 }
@@ -113,7 +102,7 @@ fn sheet_number(digits: &[u8]) -> Spelled<u8>
 {
     match number_or_zero(digits) {
         None => Spelled::Not,
-        Some(number @ 1..=16) => Spelled::Is(number as u8 - 1),
+        Some(number @ 1..=SHEETS) => Spelled::Is(number as u8 - 1),
         Some(_) => Spelled::Outside,
     }
 }

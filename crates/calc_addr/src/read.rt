@@ -2,7 +2,8 @@ ghost use Rattle.calc_addr.specs.Spelling.{after_sheet, both, sheet_part, spanne
 ghost use Rattle.std.specs.Prelude.{◌≡◌};
 
 use crate::cell::{Area, Cell};
-use crate::pieces::{cell_parts, cut, read_column, read_row_number, read_sheet, undollared};
+use crate::pieces::{cell_parts, read_column, read_row_number, read_sheet, undollared};
+use byte_cuts::split_once;
 
 /// What a word of a script spells.
 #[derive(Clone, Copy, Debug, PartialEq, Eq)]
@@ -58,7 +59,7 @@ pub fn read_row(text: &[u8]) -> Spelled<(u8, u32)>
 fn read_corners(text: &[u8]) -> Spelled<Area>
     ensures { result ≡ spelled_corners text.now }
 {
-    let (first, last) = cut(text, b':').unwrap_or((text, text));
+    let (first, last) = split_once(text, b':').unwrap_or((text, text));
     match both(read_address(first), read_address(last)) {
         Spelled::Is((first, last)) => Spelled::Is(spanned(first, last)),
         Spelled::Outside => Spelled::Outside,
@@ -108,7 +109,7 @@ fn read_front(text: &[u8]) -> (Spelled<u8>, &[u8])
     ensures sheet { result.0 ≡ sheet_part text.now }
     ensures rest { result.1.now ≡ after_sheet text.now }
 {
-    match cut(text, b'.') {
+    match split_once(text, b'.') {
         Some((word, rest)) => (read_sheet(undollared(word)), rest),
         None => (Spelled::Is(0), text),
     }

@@ -4,7 +4,7 @@ ghost use Rattle.calc_addr.specs.Ends.{AreEnds};
 ghost use Rattle.calc_addr.specs.Letters.{column_letters};
 ghost use Rattle.std.specs.Prelude.{[], decimal, length, ◌*◌, ◌++◌, ◌+◌, ◌<◌, ◌∷◌, ◌≡◌, ◌≤◌};
 
-use crate::cell::{Cell, LAST_COL, LAST_ROW, Run};
+use crate::cell::{Cell, LAST_COL, LAST_ROW, LAST_SHEET, Run};
 use crate::ends::{End, Ends, cols_of, rows_of};
 use crate::reference::{Ref, Span};
 use std::marker::Model;
@@ -84,7 +84,7 @@ impl AddrText {
     }
 
     fn push_sheet(&mut self, sheet: u8)
-        requires to { sheet ≤ 15 }
+        requires to { sheet ≤ LAST_SHEET }
         requires room { length self.old ≤ 33 }
         ensures text { self.new ≡ self.old ++ sheet_word sheet }
         ensures room { length self.new ≤ length self.old + 7 }
@@ -168,7 +168,7 @@ pub fn write_cell(cell: Cell) -> AddrText
 
 /// The word of a sheet and a point, or nothing for the first sheet.
 fn front(sheet: u8) -> AddrText
-    requires { sheet ≤ 15 }
+    requires { sheet ≤ LAST_SHEET }
     ensures prefix { result ≡ sheet_prefix sheet }
     ensures room { length result ≤ 8 }
 {

@@ -1,6 +1,5 @@
 -- How the inputs lead to the end of a run.
-use Rattle.std.proofs.Common.{rules, [], ◌≡◌, ℕ, ◌+◌, ◌≤◌, ◌<◌, Bool, true, false, not, ◌&&◌, cond, List, length, take, drop, Option, None, Some, refl, sym, ap, subst, ◌∙◌, arith, nat_lt, nat_le, ◌⊎◌, inl, inr}
-use Rattle.std.specs.Io.KnownBytes.{Keeps}
+use Rattle.std.proofs.Common.{[], ◌≡◌, ℕ, ◌+◌, ◌≤◌, ◌<◌, Bool, true, false, not, ◌&&◌, cond, List, length, take, drop, Option, None, Some, refl, sym, ap, subst, ◌∙◌, arith, nat_lt, nat_le, ◌⊎◌, inl, inr}
 use Rattle.std.proofs.KnownBytes.{Appends-nil}
 use Rattle.std.proofs.lemmas.List.{drop_all}
 use Rattle.std.proofs.lemmas.Bool.{lt-leb, ltb-true, both_ways, leb-true}
@@ -13,10 +12,12 @@ use Rattle.calc_book.specs.declared.limits.TheConstants.{MOST_BYTES}
 use Rattle.calc_book.specs.BookForm.{book_read, is_plain_book, is_plain_byte, is_plain_record}
 use Rattle.calc_book.proofs.Parts.{first_of}
 use Rattle.calc_cli.specs.declared.limits.TheConstants.{MOST_SCRIPT_BYTES}
-use Rattle.calc_cli.specs.declared.status.TheConstants.{SCRIPT_TOO_LONG}
+use Rattle.calc_cli.specs.declared.status.TheConstants.{BOOK_REFUSED, LINE_REFUSED, SCRIPT_TOO_LONG}
 use Rattle.calc_cli.specs.Ending.{Ending, ending, calculated, not_built, too_long}
 use Rattle.calc_cli.specs.Inputs.{IsLoaded}
-use Rattle.calc_cli.specs.Runs.{Ends, LeavesInputs}
+use Rattle.calc_io.specs.Desk.{Books}
+use Rattle.calc_cli.specs.Runs.{Ends, LeavesInputs, Serves, Tells}
+use Rattle.calc_cli.specs.Words.{book_name}
 use Rattle.calc_cli.proofs.TakenBytes.{longer, whole}
 
 pub too_long_ends : (old : Option (List ℕ)) → Ends SCRIPT_TOO_LONG old old too_long
@@ -46,9 +47,6 @@ ends_answered book script taken loaded good short loaded_is taken_is =
     ∙ ap (calculated field_of (book_read field_of book)) taken_is
     ∙ ap (by_tests book script true) (sym short)
     ∙ ap (λ b. by_tests book script b (nat_lt MOST_SCRIPT_BYTES (length script))) (sym good)
-
-pub still_told : (old new : Option (List ℕ)) (bytes : List ℕ) → Keeps old new → old ≡ Some bytes → new ≡ Some bytes
-still_told old new bytes kept told = search (rules, kept, told)
 
 -- the bytes taken of a book, up to one more than it may have, tell whether it can be read
 too_big : (book : List ℕ) → MOST_BYTES < length book → is_plain_book book ≡ false
@@ -88,3 +86,20 @@ too_long_left script book_left script_left left = record {
   untaken = λ six. absurd (omega arith);
   cut_off = λ _. left;
 }
+
+-- a run that stopped before its inputs were taken says nothing of what is left
+pub stopped_early : (status : ℕ) (script : List ℕ) (book_left script_left : Option (List ℕ)) → LINE_REFUSED < status → status < BOOK_REFUSED → LeavesInputs status script book_left script_left
+stopped_early status script book_left script_left more less = record {
+  book_ends = λ few. absurd (omega arith);
+  script_ends = λ few. absurd (omega arith);
+  untaken = λ six. absurd (omega arith);
+  cut_off = λ seven. absurd (omega arith);
+}
+
+pub told_of : (books : Option Books) (script_left : Option (List ℕ)) (words : List (List ℕ)) (book script name : List ℕ) → Serves books script_left words book script → book_name words ≡ Some name → Tells books script_left name book script
+told_of books script_left words book script name serves named =
+    let same : serves.name ≡ name = cc (serves.is_named, named) in
+    subst (λ n. Tells books script_left n book script) same serves.told
+
+pub not_served : (books : Option Books) (script_left : Option (List ℕ)) (words : List (List ℕ)) (book script : List ℕ) → Serves books script_left words book script → book_name words ≡ None → ⊥
+not_served books script_left words book script serves none = cc (serves.is_named, none)

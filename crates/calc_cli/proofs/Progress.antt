@@ -5,7 +5,7 @@ use Rattle.std.proofs.KnownBytes.{Appends-nil, Appends-trans}
 use Rattle.std.proofs.lemmas.List.{length-append}
 use Rattle.calc_io.specs.Sink.{HasRoom, RoomFalls}
 use Rattle.calc_io.proofs.Rooms.{HasRoom-rest, HasRoom-less}
-use Rattle.calc_cli.specs.Writes.{GrowsWithin}
+use Rattle.calc_cli.specs.Runs.{GrowsWithin}
 
 -- what stands before the rest was written
 abbrev pub IsWrittenTo : Option (List ℕ) → Option (List ℕ) → List ℕ → List ℕ → Type 0

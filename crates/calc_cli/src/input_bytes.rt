@@ -45,13 +45,12 @@ pub(crate) fn read_all<D: Desk>(
     let mut buf = [0u8; 4096];
     'pieces: while bytes.len() <= limit {
         let room = buf.len().min(limit + 1 - bytes.len());
+        bytes.try_reserve(room).map_err(DeviceFault::NoMemory)?;
         let count = read_some(desk, input, &mut buf[..room])?;
         if count == 0 {
             return Ok(bytes);
         }
-        bytes
-            .extend_from_slice(&buf[..count])
-            .map_err(DeviceFault::NoMemory)?;
+        bytes.extend_from_slice(&buf[..count]).unwrap();
     }
     Ok(bytes)
 }

@@ -1,4 +1,4 @@
-ghost use Rattle.std.specs.Prelude.{◌≡◌, ◌≤◌, ◌+◌, ◌⊎◌, length, drop, Some, IfOk, OnOk, IsTrue, IsSome, IfSome, List, ℕ};
+ghost use Rattle.std.specs.Prelude.{◌≡◌, ◌≤◌, ◌+◌, ◌⊎◌, length, drop, Some, IfOk, OnOk, OnErr, IsTrue, IsSome, IfSome, List, ℕ};
 ghost use Rattle.std.specs.Io.KnownBytes.{Keeps};
 ghost use Rattle.calc_io.specs.Desk.{told_book, IsUnknown};
 ghost use Rattle.calc_io.specs.Faults.{HasFailed, Rose};
@@ -9,7 +9,6 @@ ghost use Rattle.calc_cli.specs.Runs.{IsEnding, TakesAtMost, Tells};
 
 use crate::input_bytes::{Input, read_all};
 use crate::limits::MOST_SCRIPT_BYTES;
-use calc_addr::NoMemory;
 use calc_book::{BookFault, MOST_BYTES, read_book};
 use calc_io::{Desk, DeviceFault};
 use calc_model::Text;
@@ -28,13 +27,14 @@ pub(crate) enum Inputs {
 }
 
 /// The book of these bytes, unless they have a form that can't be read so far.
-fn book_of(alloc: Global, bytes: &[u8]) -> Result<Option<CellMap>, NoMemory>
-    ensures { IfOk result (λ book. IsLoaded book bytes.now) }
+fn book_of(alloc: Global, bytes: &[u8]) -> Result<Option<CellMap>, DeviceFault>
+    ensures read { IfOk result (λ book. IsLoaded book bytes.now) }
+    ensures memory { HasFailed result → ⊥ }
 {
     match read_book(alloc, bytes) {
         Ok(book) => Ok(Some(book)),
         Err(BookFault::NotBuilt) => Ok(None),
-        Err(BookFault::NoMemory(refused)) => Err(refused),
+        Err(BookFault::NoMemory(refused)) => Err(DeviceFault::NoMemory(refused)),
     }
 }
 
@@ -108,7 +108,7 @@ fn load_book<D: Desk>(
 {
     open(desk, name)?;
     let bytes = read_all(alloc, desk, Input::BookInput, MOST_BYTES)?;
-    let book = book_of(alloc, &bytes).map_err(DeviceFault::NoMemory)?;
+    let book = book_of(alloc, &bytes)?;
     Ok(book)
 }
 

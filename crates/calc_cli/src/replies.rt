@@ -93,7 +93,7 @@ fn print_shown(alloc: Global, workbook: &mut PlainWorkbook, area: Area) -> Resul
 {
     let results = workbook.recalculate(alloc)?;
     let shown = Shown {
-        book: workbook.book(),
+        book: workbook.cells(),
         results: &results,
     };
     Ok(accept(print_area(alloc, &shown, area)?))
@@ -104,7 +104,7 @@ fn print_held(alloc: Global, workbook: &PlainWorkbook, area: Area) -> Result<Rep
         (printed_area (held_texts (session_of workbook.now).book) area)) }
 {
     let held = Held {
-        book: workbook.book(),
+        book: workbook.cells(),
     };
     Ok(accept(print_area(alloc, &held, area)?))
 }

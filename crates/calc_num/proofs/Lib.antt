@@ -1,15 +1,9 @@
-pub mod Digits
-pub mod InRange
-pub mod Picks
-pub mod Powers
-pub mod PrintedBytes
-pub mod Products
-pub mod Readings
-pub mod Roots
-pub mod RoundTrip
-pub mod Scale
-pub mod Signs
-pub mod Sizes
-mod DecimalExamples
-mod PrintingExamples
-mod ReadingExamples
+-- Where what is shown stands.
+-- ReadNumbers: how digits make a size, and which texts are numbers.
+-- PrintedNumbers: how a number is printed, and that the text reads back.
+-- Arithmetic: what each operation comes to on sizes with their signs.
+-- Examples: worked examples.
+pub mod ReadNumbers
+pub mod PrintedNumbers
+pub mod Arithmetic
+mod Examples

@@ -3,6 +3,7 @@
 use Rattle.std.specs.Prelude.{◌≡◌, ℕ, ℤ, pos, negsuc, neg_ℤ, ◌-ℤ◌, ◌*ℤ◌, zero, suc, ◌+◌, ◌-◌, ◌*◌, ◌/◌, ◌%◌, ◌^◌, ◌<◌, ◌≤◌, ◌==◌, ◌&&◌, Bool, true, Result, Ok, Err, nat_lt, nat_le, int_lt, int_le, int_div, if◌then◌else◌}
 use Rattle.std.specs.Int.RustNames.{unsigned_abs}
 use Rattle.calc_num.specs.declared.num.NumFault.{NumFault}
+use Rattle.calc_num.specs.declared.power.TheConstants.{MOST_FACTORS}
 use Rattle.calc_num.specs.declared.num.NumFault.TheVariants.{Over, DivZero, NotNum}
 use Rattle.calc_num.specs.declared.rounding.Way.{Way}
 use Rattle.calc_num.specs.declared.rounding.Way.TheVariants.{Nearest, Away, Toward, Floor}
@@ -32,14 +33,14 @@ nearest (pos p) q = pos (rounded p q)
 nearest (negsuc p) q = neg_ℤ (pos (rounded (suc p) q))
 
 -- n times m
-abbrev pub product : ℤ → ℤ → Result ℤ NumFault
-product n m = checked (nearest (n *ℤ m) (10 ^ 9))
+abbrev pub mul : ℤ → ℤ → Result ℤ NumFault
+mul n m = checked (nearest (n *ℤ m) (10 ^ 9))
 
 -- n divided by m, whose sign goes to the numerator
-abbrev pub quotient : ℤ → ℤ → Result ℤ NumFault
-quotient n (pos zero) = Err DivZero
-quotient n (pos (suc m)) = checked (nearest (n *ℤ pos (10 ^ 9)) (suc m))
-quotient n (negsuc m) = checked (nearest (neg_ℤ (n *ℤ pos (10 ^ 9))) (suc m))
+abbrev pub div : ℤ → ℤ → Result ℤ NumFault
+div n (pos zero) = Err DivZero
+div n (pos (suc m)) = checked (nearest (n *ℤ pos (10 ^ 9)) (suc m))
+div n (negsuc m) = checked (nearest (neg_ℤ (n *ℤ pos (10 ^ 9))) (suc m))
 
 -- n hundredths
 abbrev pub percent : ℤ → ℤ
@@ -54,20 +55,20 @@ Err fault >>= next = Err fault
 -- 1 multiplied by n so many times, rounded and tested at each step
 unfoldable pub repeated_product : ℤ → ℕ → Result ℤ NumFault
 repeated_product n zero = Ok (pos (10 ^ 9))
-repeated_product n (suc count) = repeated_product n count >>= (λ before. product before n)
+repeated_product n (suc count) = repeated_product n count >>= (λ before. mul before n)
 
 -- how often an exponent multiplies: it is a whole number from -1,024 to 1,024
 abbrev pub exponent_size : ℤ → Result ℕ NumFault
 exponent_size exponent =
     let size = unsigned_abs exponent in
-    if size % 10 ^ 9 == 0 && nat_le (size / 10 ^ 9) 1024 then Ok (size / 10 ^ 9) else Err NotNum
+    if size % 10 ^ 9 == 0 && nat_le (size / 10 ^ 9) MOST_FACTORS then Ok (size / 10 ^ 9) else Err NotNum
 
 -- n to the power of an exponent, which for a negative one is 1 divided by the product
-abbrev pub power : ℤ → ℤ → Result ℤ NumFault
-power n exponent = do
+abbrev pub pow : ℤ → ℤ → Result ℤ NumFault
+pow n exponent = do
   count ← exponent_size exponent
   up ← repeated_product n count
-  if int_lt exponent (pos 0) then quotient (pos (10 ^ 9)) up else Ok up
+  if int_lt exponent (pos 0) then div (pos (10 ^ 9)) up else Ok up
 
 -- the whole number that a way of rounding picks for n / unit
 abbrev pub pick : Way → ℤ → ℕ → ℤ
@@ -85,8 +86,8 @@ fewer_than_nine (pos digits) = 9 - digits
 fewer_than_nine (negsuc digits) = 10 + digits
 
 -- the multiple of 10^(-digits) that a way of rounding picks for n, which is n itself from nine digits on
-abbrev pub rounding : Way → ℤ → ℤ → Result ℤ NumFault
-rounding way digits n =
+abbrev pub round_to : Way → ℤ → ℤ → Result ℤ NumFault
+round_to way digits n =
     let unit = 10 ^ fewer_than_nine digits in
     if int_le (pos 9) digits then Ok n else checked (pick way n unit *ℤ pos unit)
 
@@ -96,14 +97,14 @@ floor_quotient n (pos m) = pick Floor n m
 floor_quotient n (negsuc m) = pick Floor (neg_ℤ n) (suc m)
 
 -- what is left of n without m times that
-abbrev pub remainder : ℤ → ℤ → Result ℤ NumFault
-remainder n (pos zero) = Err DivZero
-remainder n m = Ok (n -ℤ m *ℤ floor_quotient n m)
+abbrev pub floor_mod : ℤ → ℤ → Result ℤ NumFault
+floor_mod n (pos zero) = Err DivZero
+floor_mod n m = Ok (n -ℤ m *ℤ floor_quotient n m)
 
 -- n / m cut toward zero
-abbrev pub whole_quotient : ℤ → ℤ → Result ℤ NumFault
-whole_quotient n (pos zero) = Err DivZero
-whole_quotient n m = checked (int_div n m *ℤ pos (10 ^ 9))
+abbrev pub quotient : ℤ → ℤ → Result ℤ NumFault
+quotient n (pos zero) = Err DivZero
+quotient n m = checked (int_div n m *ℤ pos (10 ^ 9))
 
 -- the least number from `low` on that passes a test which every number above it passes too, by halving: there is one
 -- among the first 2^halvings
@@ -116,9 +117,9 @@ least test low (suc halvings) =
 abbrev pub is_past_root : ℕ → ℕ → Bool
 is_past_root n r = nat_lt (4 * n * 10 ^ 9) ((2 * r + 1) * (2 * r + 1))
 
-abbrev pub square_root : ℤ → Result ℤ NumFault
-square_root (pos n) = Ok (pos (least (is_past_root n) 0 60))
-square_root (negsuc n) = Err NotNum
+abbrev pub sqrt : ℤ → Result ℤ NumFault
+sqrt (pos n) = Ok (pos (least (is_past_root n) 0 60))
+sqrt (negsuc n) = Err NotNum
 
 -- what that says of the two raw numbers
 pub record IsLeastRoot (n root : ℤ) : Type 0 where

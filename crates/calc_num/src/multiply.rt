@@ -1,9 +1,9 @@
 //! Products and quotients, each rounded once to nine places.
 ghost use Rattle.std.specs.Prelude.{◌≡◌, ◌+◌, ◌*◌, ◌^◌, ◌<◌, ◌≤◌, min};
-ghost use Rattle.calc_num.specs.Decimals.{rounded, product, quotient, percent};
+ghost use Rattle.calc_num.specs.Decimals.{rounded, mul, div, percent};
 
 use crate::num::{LIMIT, Num, NumFault, ONE};
-use crate::split::split;
+use crate::split::{divide_small, split};
 
 /// Half of the raw number of 1.
 const HALF: u64 = ONE / 2;
@@ -17,6 +17,7 @@ const TICKS: u64 = ONE / TICK;
 const SHORT: u64 = 900_000 * ONE;
 
 /// The size of a product of two small sizes.
+#[tactic(auto, using(crate::proofs::Arithmetic::Products::product_parted))]
 fn small_product(a: u64, b: u64) -> u128
     requires first { a ≤ 2 ^ 63 }
     requires second { b ≤ 2 ^ 63 }
@@ -28,6 +29,7 @@ fn small_product(a: u64, b: u64) -> u128
 }
 
 /// The size of a product, or the limit where it is as large as that.
+#[tactic(auto, using(crate::proofs::Arithmetic::Products::product_large, crate::proofs::Arithmetic::Products::product_in_four))]
 fn rounded_product(a: u128, b: u128) -> u128
     requires first { a < 10 ^ 27 }
     requires second { b < 10 ^ 27 }
@@ -71,15 +73,16 @@ fn rounded_quotient(a: u128, b: u128) -> u128
 impl Num {
     /// The product, rounded once. Its one fault is `Over`.
     pub fn mul(self, other: Num) -> Result<Num, NumFault>
-        ensures { result ≡ product self other }
+        ensures { result ≡ mul self other }
     {
         let size = rounded_product(self.size(), other.size());
         Num::from_any_size(self.is_negative() != other.is_negative(), size)
     }
 
     /// The quotient, rounded once. A divisor of zero is `DivZero`; its other fault is `Over`.
+    #[tactic(auto, using(crate::proofs::Arithmetic::Products::div_of_sizes))]
     pub fn div(self, other: Num) -> Result<Num, NumFault>
-        ensures { result ≡ quotient self other }
+        ensures { result ≡ div self other }
     {
         if other.size() == 0 {
             return Err(NumFault::DivZero);
@@ -92,6 +95,6 @@ impl Num {
     pub fn percent(self) -> Num
         ensures { result ≡ percent self }
     {
-        Num::from_size(self.is_negative(), (self.size() + 50) / 100)
+        Num::from_size(self.is_negative(), divide_small(self.size() + 50, 100).0)
     }
 }

@@ -7,6 +7,8 @@ use std::marker::Model;
 pub(crate) const ONE: u64 = 1_000_000_000;
 /// The first size that is out of range.
 pub(crate) const LIMIT: u128 = 1_000_000_000_000_000_000_000_000_000;
+/// The greatest raw number.
+const MOST: i128 = LIMIT as i128 - 1;
 
 /// A decimal number. Contracts see its raw number n, which stands for n / 10^9.
 #[derive(Clone, Copy, Debug, PartialEq, Eq)]
@@ -55,7 +57,7 @@ impl Num {
         ensures in_range { IsSome result ↔ IsRaw n }
         ensures value { IfSome result (λ num. num ≡ n) }
     {
-        if n.unsigned_abs() < LIMIT {
+        if -MOST <= n && n <= MOST {
             Some(Num { raw: n })
         } else {
             None

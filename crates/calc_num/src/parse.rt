@@ -1,12 +1,15 @@
 //! The reading of a number.
-ghost use Rattle.std.specs.Prelude.{◌≡◌, ℕ, ◌+◌, ◌-◌, ◌*◌, ◌^◌, ◌==◌, ◌<◌, ◌≤◌, List, [], ◌∷◌, ◌++◌, length, min, ℤ, pos, neg_ℤ, ◌+ℤ◌, ◌<ℤ◌, ◌≤ℤ◌, true, MatchOption, IfSome};
+ghost use Rattle.std.specs.Prelude.{◌≡◌, ℕ, ◌+◌, ◌-◌, ◌*◌, ◌^◌, ◌==◌, ◌<◌, ◌≤◌, List, [], ◌∷◌, ◌++◌, length, min, ℤ, pos, neg_ℤ, ◌+ℤ◌, ◌<ℤ◌, ◌≤ℤ◌, true, unsigned_abs, MatchOption, IfSome};
 ghost use Rattle.std.specs.Char.{is_ascii_digit};
 ghost use Rattle.std.specs.List.{list_all, prefix_len};
 ghost use Rattle.std.specs.Option.{ForSome, option_map};
+ghost use Rattle.calc_num.specs.Decimals.{rounded};
 ghost use Rattle.calc_num.specs.Scaling.{near, worth, size_of, size_reading};
 ghost use Rattle.calc_num.specs.Spelling.{front_digits, behind_digits, fraction_digits, behind_fraction, is_negative, behind_sign, digits_number, whole_number, signed_whole, exponent, unsigned, reading};
 
 use crate::num::{LIMIT, Num};
+use crate::split::divide;
+use crate::tens::{power_of_ten, with_zeros};
 
 /// Exponents of this size and more aren't told apart: no text has so many digits.
 const FAR: u128 = 100_000_000_000_000_000_000;
@@ -136,6 +139,30 @@ fn read_exponent(text: &[u8]) -> Option<i128>
     }
 }
 
+/// A number with so many zeros behind it, or the limit where that is as large.
+fn lengthened(number: u128, zeros: usize) -> u128
+    requires { zeros ≤ 28 }
+    ensures { result ≡ min (number * 10 ^ zeros) (10 ^ 27) }
+{
+    if number < MANY as u128 && zeros <= 18 {
+        return with_zeros(number as u64, zeros).min(LIMIT);
+    }
+    let size = number.checked_mul(power_of_ten(zeros));
+    size.map_or(LIMIT, |size| size.min(LIMIT))
+}
+
+/// A number without so many of its last digits, rounded, or the limit where that is as large.
+fn shortened(number: u128, digits: usize) -> u128
+    requires number { number < 10 ^ 37 }
+    requires digits { digits ≤ 28 }
+    ensures { result ≡ min (rounded number (10 ^ digits)) (10 ^ 27) }
+{
+    let unit = power_of_ten(digits);
+    let (count, rest) = divide(number, unit);
+    let size = if 2 * rest < unit { count } else { count + 1 };
+    size.min(LIMIT)
+}
+
 /// A size in billionths while its digits come in.
 #[derive(Clone, Copy)]
 struct Partial {
@@ -198,8 +225,7 @@ impl Partial {
         if places >= 27 {
             return LIMIT;
         }
-        let size = self.size.checked_mul(10u128.pow(places as u32));
-        size.map_or(LIMIT, |size| size.min(LIMIT))
+        lengthened(self.size, places as usize)
     }
 }
 
@@ -240,68 +266,48 @@ fn long_size(whole: &[u8], fraction: &[u8], exponent: i128) -> u128
     }
 }
 
-/// Ten to the powers 0 to 18.
-static POWERS: [u64; 19] = [
-    1,
-    10,
-    100,
-    1_000,
-    10_000,
-    100_000,
-    1_000_000,
-    10_000_000,
-    100_000_000,
-    1_000_000_000,
-    10_000_000_000,
-    100_000_000_000,
-    1_000_000_000_000,
-    10_000_000_000_000,
-    100_000_000_000_000,
-    1_000_000_000_000_000,
-    10_000_000_000_000_000,
-    100_000_000_000_000_000,
-    1_000_000_000_000_000_000,
-];
-
-/// A number of less than 19 digits with so many zeros behind it.
-fn with_zeros(number: u64, zeros: usize) -> u128
-    requires number { number < 10 ^ 18 }
-    requires zeros { zeros ≤ 18 }
-    ensures value { result ≡ number * 10 ^ zeros }
-    ensures small { result < 10 ^ 36 }
-{
-    number as u128 * POWERS[zeros] as u128
-}
-
-/// How many places stand between the shifted point and the cut. None where these are far apart.
-fn places_behind_point(exponent: i128) -> Option<usize>
+/// How many zeros stand behind all digits in front of the cut, or behind it where there are fewer than
+/// none. None where these are many.
+fn zeros_behind(count: usize, exponent: i128) -> Option<i128>
     requires low { neg_ℤ (pos (10 ^ 20)) ≤ℤ exponent }
     requires high { exponent ≤ℤ pos (10 ^ 20) }
-    ensures { IfSome result (λ places. (pos places ≡ pos 9 +ℤ exponent) × (places ≤ 18)) }
+    ensures { IfSome result (λ zeros. (pos count +ℤ zeros ≡ pos 9 +ℤ exponent) × (unsigned_abs zeros ≤ 28)) }
 {
-    let places = 9 + exponent;
-    if places < 0 || places > 18 {
+    let zeros = 9 + exponent - count as i128;
+    if zeros < -28 || zeros > 28 {
         None
     } else {
-        Some(places as usize)
+        Some(zeros)
     }
 }
 
-/// The size in billionths of digits round a point with an exponent, or the limit, by one product on
-/// each side of the point. None where a side has many digits, or one of them stands behind the cut.
-fn short_size(whole: Digits, fraction: Digits, exponent: i128) -> Option<u128>
+/// The number that digits on both sides of a point write together. None where a side has many digits.
+fn joined(whole: Digits, fraction: Digits) -> Option<u128>
+    ensures { IfSome result (λ number. (number < 10 ^ 37) × (number ≡ digits_number whole.entry.bytes.now
+        * 10 ^ length fraction.entry.bytes.now + digits_number fraction.entry.bytes.now)) }
+{
+    if whole.number >= MANY || fraction.number >= MANY || fraction.bytes.len() > 18 {
+        return None;
+    }
+    Some(with_zeros(whole.number, fraction.bytes.len()) + fraction.number as u128)
+}
+
+/// The size in billionths of digits round a point with an exponent, or the limit, by the number that
+/// all digits write. None where a side has many digits, or the cut is far from the last.
+fn joined_size(whole: Digits, fraction: Digits, exponent: i128) -> Option<u128>
     requires low { neg_ℤ (pos (10 ^ 20)) ≤ℤ exponent }
     requires high { exponent ≤ℤ pos (10 ^ 20) }
     ensures { IfSome result (λ size. size
         ≡ size_of record { whole = whole.entry.bytes.now; fraction = fraction.entry.bytes.now; exponent = exponent }) }
 {
-    if whole.number >= MANY || fraction.number >= MANY {
-        return None;
+    let number = joined(whole, fraction)?;
+    let zeros = zeros_behind(fraction.bytes.len(), exponent)?;
+    let places = zeros.unsigned_abs() as usize;
+    if zeros < 0 {
+        Some(shortened(number, places))
+    } else {
+        Some(lengthened(number, places))
     }
-    let before = places_behind_point(exponent)?;
-    let behind = before.checked_sub(fraction.bytes.len())?;
-    let size = with_zeros(whole.number, before) + with_zeros(fraction.number, behind);
-    Some(size.min(LIMIT))
 }
 
 /// The size in billionths of digits round a point with an exponent, or the limit.
@@ -311,7 +317,7 @@ fn scaled(whole: Digits, fraction: Digits, exponent: i128) -> u128
     ensures { result
         ≡ size_of record { whole = whole.entry.bytes.now; fraction = fraction.entry.bytes.now; exponent = exponent } }
 {
-    match short_size(whole, fraction, exponent) {
+    match joined_size(whole, fraction, exponent) {
         Some(size) => size,
         None => long_size(whole.bytes, fraction.bytes, exponent),
     }

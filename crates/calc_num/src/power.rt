@@ -1,12 +1,12 @@
-//! Powers with a whole exponent, and the square root.
-ghost use Rattle.std.specs.Prelude.{◌≡◌, IfOk};
-ghost use Rattle.calc_num.specs.Decimals.{power, repeated_product, square_root, IsLeastRoot};
+//! Powers with a whole exponent.
+ghost use Rattle.std.specs.Prelude.{◌≡◌};
+ghost use Rattle.calc_num.specs.Decimals.{pow, repeated_product};
 
 use crate::num::{Num, NumFault, ONE};
 use crate::split::split;
 
 /// The greatest size of an exponent.
-const MOST: u64 = 1024;
+const MOST_FACTORS: u64 = 1_024;
 
 /// One, multiplied by the base so many times. It stops where a further step changes nothing.
 fn repeated(base: Num, count: u32) -> Result<Num, NumFault>
@@ -29,10 +29,10 @@ impl Num {
     /// `DivZero`. An exponent that isn't a whole number from -1,024 to 1,024 is `NotNum`. There are
     /// at most 1,024 products.
     pub fn pow(self, exponent: Num) -> Result<Num, NumFault>
-        ensures { result ≡ power self exponent }
+        ensures { result ≡ pow self exponent }
     {
         let (count, rest) = split(exponent.size());
-        if rest != 0 || count > MOST {
+        if rest != 0 || count > MOST_FACTORS {
             return Err(NumFault::NotNum);
         }
         let product = repeated(self, count as u32)?;
@@ -41,18 +41,5 @@ impl Num {
         } else {
             Ok(product)
         }
-    }
-
-    /// The square root to nine places, which is never halfway between two. A negative number has none
-    /// and is `NotNum`; there is no other fault.
-    pub fn sqrt(self) -> Result<Num, NumFault>
-        ensures value { result ≡ square_root self }
-        ensures least { IfOk result (IsLeastRoot self) }
-    {
-        if self.is_negative() {
-            return Err(NumFault::NotNum);
-        }
-        let doubled = (4 * self.size() * ONE as u128).isqrt();
-        Ok(Num::from_size(false, (doubled + 1) / 2))
     }
 }

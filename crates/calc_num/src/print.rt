@@ -86,6 +86,8 @@ fn put_size(bytes: &mut [u8], size: u128) -> (usize, usize)
 impl Num {
     /// The printed text: `-` where the number is negative, the whole part with at least one digit,
     /// and a point and the fraction's digits, without the zeros at their end, where it has one.
+    // Inlined, since its caller would copy the text.
+    #[inline(always)]
     pub fn write(self) -> NumText
         ensures value { result ≡ printed self }
         ensures short { length result ≤ 29 }

@@ -1,8 +1,10 @@
 //! Rounding to a number of digits, and what is left of a division.
-ghost use Rattle.std.specs.Prelude.{◌≡◌, ◌+◌, ◌-◌, ◌*◌, ◌%◌, ◌^◌, ◌<◌, ◌≤◌, min, pos, ◌<ℤ◌, if◌then◌else◌};
-ghost use Rattle.calc_num.specs.Decimals.{with_sign, pick, fewer_than_nine, rounding, remainder, whole_quotient};
+ghost use Rattle.std.specs.Prelude.{◌≡◌, ℕ, ◌+◌, ◌-◌, ◌*◌, ◌%◌, ◌^◌, ◌<◌, ◌≤◌, min, pos, ◌<ℤ◌, if◌then◌else◌};
+ghost use Rattle.calc_num.specs.Decimals.{with_sign, pick, fewer_than_nine, round_to, floor_mod, quotient};
 
 use crate::num::{Num, NumFault, ONE};
+use crate::split::divide;
+use crate::tens::power_of_ten;
 
 /// How a number between two multiples is rounded.
 #[derive(Clone, Copy, Debug, PartialEq, Eq)]
@@ -24,7 +26,22 @@ fn unit_of(digits: i64) -> u128
     ensures value { result ≡ 10 ^ min (fewer_than_nine digits) 28 }
     ensures bounds { (0 < result) × (result ≤ 10 ^ 28) }
 {
-    10u128.pow(digits.abs_diff(9).min(28) as u32)
+    power_of_ten(digits.abs_diff(9).min(28) as usize)
+}
+
+/// Whether a way of rounding picks one unit more than a size with a sign has, where this is left of it.
+fn is_one_more(way: Way, negative: bool, rest: u128, unit: u128) -> bool
+    requires rest { rest < unit }
+    requires unit { unit ≤ 10 ^ 28 }
+    ensures { (count : ℕ) → with_sign negative (if result then count + 1 else count)
+        ≡ pick way (with_sign negative (count * unit + rest)) unit }
+{
+    match way {
+        Way::Nearest => 2 * rest >= unit,
+        Way::Away => rest != 0,
+        Way::Toward => false,
+        Way::Floor => negative && rest != 0,
+    }
 }
 
 /// The size of the whole number that a way of rounding picks for a size with a sign, in units.
@@ -34,12 +51,11 @@ fn picked(way: Way, negative: bool, size: u128, unit: u128) -> u128
     ensures value { with_sign negative result ≡ pick way (with_sign negative size) unit }
     ensures near { result * unit ≤ size + unit }
 {
-    match way {
-        Way::Nearest => (2 * size + unit) / (2 * unit),
-        Way::Away => (size + (unit - 1)) / unit,
-        Way::Toward => size / unit,
-        Way::Floor if negative => (size + (unit - 1)) / unit,
-        Way::Floor => size / unit,
+    let (count, rest) = divide(size, unit);
+    if is_one_more(way, negative, rest, unit) {
+        count + 1
+    } else {
+        count
     }
 }
 
@@ -62,7 +78,7 @@ impl Num {
     /// negative count makes zeros before it. From nine digits on it is the number itself. Its one
     /// fault is `Over`.
     pub fn round_to(self, digits: i64, way: Way) -> Result<Num, NumFault>
-        ensures { result ≡ rounding way digits self }
+        ensures { result ≡ round_to way digits self }
     {
         if digits >= 9 {
             return Ok(self);
@@ -74,8 +90,9 @@ impl Num {
 
     /// What is left of the number when the divisor is taken off as often as the quotient, rounded
     /// down, says: it has the divisor's sign and is smaller. No fault but a divisor of zero.
+    #[tactic(auto, using(crate::proofs::Arithmetic::Picks::floor_mod_of_sizes))]
     pub fn floor_mod(self, other: Num) -> Result<Num, NumFault>
-        ensures { result ≡ remainder self other }
+        ensures { result ≡ floor_mod self other }
     {
         let divisor = other.size();
         if divisor == 0 {
@@ -88,8 +105,9 @@ impl Num {
 
     /// The whole part of the quotient, cut toward zero. A divisor of zero is `DivZero`; its other fault
     /// is `Over`.
+    #[tactic(auto, using(crate::proofs::Arithmetic::Picks::quotient_of_sizes))]
     pub fn quotient(self, other: Num) -> Result<Num, NumFault>
-        ensures { result ≡ whole_quotient self other }
+        ensures { result ≡ quotient self other }
     {
         let divisor = other.size();
         if divisor == 0 {

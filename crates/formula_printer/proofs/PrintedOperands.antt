@@ -8,13 +8,13 @@ use Rattle.std.proofs.lemmas.Bool.{and_from, and_parts, both_ways, cases_lt, con
 use Rattle.std.proofs.lemmas.List.{append-nil}
 use Rattle.calc_num.specs.Decimals.{is_raw}
 use Rattle.calc_num.specs.Numbers.{printed, printed_fraction, printed_size}
-use Rattle.calc_num.proofs.RoundTrip.{decimal-digits, reading-printed}
-use Rattle.calc_num.proofs.Scale.{digit_range}
+use Rattle.calc_num.proofs.PrintedNumbers.RoundTrip.{decimal-digits, reading-printed}
+use Rattle.calc_num.proofs.ReadNumbers.Scale.{digit_range}
 use Rattle.calc_addr.specs.Bracketed.{printed_reference}
 use Rattle.calc_addr.specs.References.{Reference}
 use Rattle.calc_addr.specs.ValidReferences.{is_valid_reference}
-use Rattle.calc_addr.proofs.ReferenceTests.{tested-valid}
-use Rattle.calc_addr.proofs.ReferenceTrip.{spelled_reference-printed_reference}
+use Rattle.calc_addr.proofs.References.Tests.{tested-valid}
+use Rattle.calc_addr.proofs.References.RoundTrip.{references_read_back}
 use Rattle.calc_model.specs.declared.tree.Tree.{Tree}
 use Rattle.calc_model.specs.declared.tree.Tree.TheVariants as t
 use Rattle.calc_model.specs.Formed.{is_not_negative}
@@ -41,7 +41,7 @@ printed_number (negsuc n) formed =
 pub printed_bracket : (r : Reference) → is_valid_reference r ≡ true → IsOperand (codes "[" ++ printed_reference r ++ codes "]") (t.Ref r)
 printed_bracket r valid =
     let is = tested-valid r valid in
-    reference (printed_reference r) r (spelled_reference-printed_reference r is.lies is.spelled)
+    reference (printed_reference r) r (references_read_back r is.lies is.spelled)
 
 -- an operand is of the tightest row
 pub row_of_operand : (text : List ℕ) (x : Tree) → IsOperand text x → IsLevel 0 text x

@@ -8,9 +8,9 @@ use Rattle.std.proofs.lemmas.List.Folds.{list_all-append}
 use Rattle.calc_num.specs.Decimals.{is_raw}
 use Rattle.calc_num.specs.Spelling.{Unsigned, behind_sign, is_negative, nearest_raw, reading_of, unsigned}
 use Rattle.calc_num.specs.declared.parse.Reading.TheVariants as readings
-use Rattle.calc_num.proofs.InRange.{reading-ok}
-use Rattle.calc_addr.proofs.ReferenceInside.{spelled_reference-valid}
-use Rattle.calc_addr.proofs.ReferenceTests.{valid-tested}
+use Rattle.calc_num.proofs.ReadNumbers.InRange.{reading-ok}
+use Rattle.calc_addr.proofs.References.Inside.{spelled_references_lie_inside}
+use Rattle.calc_addr.proofs.References.Tests.{valid-tested}
 use Rattle.calc_addr.specs.ValidReferences.{is_valid_reference}
 use Rattle.calc_model.proofs.TreeFolds as folds
 use Rattle.calc_model.specs.Contents.{is_error_constant}
@@ -63,7 +63,7 @@ operand_formed (large_number text sign r) = made 0 (t.Bad Over) (record { level 
 operand_formed (string text u) = made 0 (t.Words text) (record { level = 0; formed = is_utf8 text }) (folds.at-Words Form form_step text) (omega arith) u
 operand_formed (reference text r e) =
     made 0 (t.Ref r) (record { level = 0; formed = is_valid_reference r }) (folds.at-Ref Form form_step r) (omega arith)
-    (valid-tested r (spelled_reference-valid text r e))
+    (valid-tested r (spelled_references_lie_inside text r e))
 operand_formed (error fault e) = made 0 (t.Bad fault) (record { level = 0; formed = is_error_constant fault }) (folds.at-Bad Form form_step fault) (omega arith) e
 operand_formed (name text e) = made 0 (t.Name text) (record { level = 0; formed = is_name text }) (folds.at-Name Form form_step text) (omega arith) e
 

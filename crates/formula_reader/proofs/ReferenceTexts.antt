@@ -9,7 +9,7 @@ use Rattle.std.proofs.lemmas.Bool.Decides.{nat_tests}
 use Rattle.std.proofs.lemmas.List.{drop_all, take-append-drop}
 use Rattle.std.proofs.lemmas.Slice.Eq.{bytes_eq-Decides}
 use Rattle.std.proofs.lemmas.List.Folds.{list_any-append}
-use Rattle.calc_addr.specs.Bracketed.{after_point, column_end, corner_ends, end_of, inside, one_cell, row_end, spelled_reference, spelled_span, two_cells, two_columns, two_ends, two_rows, unquoted, written_sheet}
+use Rattle.calc_addr.specs.Bracketed.{after_point, column_end, corner_ends, end_of, inside, one_cell, row_end, spelled_reference, spelled_span, two_cells, two_columns, two_ends, two_rows, bare_name, written_sheet}
 use Rattle.calc_addr.specs.Ends.{in_order, reference_of, whole}
 use Rattle.calc_addr.specs.declared.reference.Span.TheVariants as span
 use Rattle.calc_addr.specs.References.{Reference}
@@ -18,7 +18,7 @@ use Rattle.formula_reader.proofs.Steps.{either}
 use Rattle.calc_addr.specs.Spelling.{are_digits, are_digits_or_zero, are_letters, column_len, column_part, is_colon, is_point, row_part, sheet_number, sheet_of, undollared}
 use Rattle.calc_addr.specs.declared.read.Spelled.{Spelled}
 use Rattle.calc_addr.specs.declared.read.Spelled.TheVariants.{Is, Outside, Not}
-use Rattle.calc_addr.proofs.MoveLaws.{pair_of}
+use Rattle.calc_addr.proofs.References.Parts.{pair_of}
 use Rattle.formula_reader.specs.Leaves.{is_closing}
 
 -- an end of a reference, which has its place and mark
@@ -222,13 +222,13 @@ quotes_by true q rest e h =
     quoted_more q k rest (ap is_closing (eqb-true q 39 ends.0)) (ap is_closing last) (omega arith) h
 quotes_by false q rest e h = h
 
-quotes_none : (text : List ℕ) → HasNoClosing (unquoted text) → HasNoClosing text
+quotes_none : (text : List ℕ) → HasNoClosing (bare_name text) → HasNoClosing text
 quotes_none [] h = refl
 quotes_none (q ∷ rest) h = quotes_by ((q == 39) && (slice_index (q ∷ rest) (length (q ∷ rest) - 1) == 39) && nat_le 2 (length (q ∷ rest))) q rest refl h
 
 written_sheet_none : (text : List ℕ) (sheet : Option ℕ) → written_sheet text ≡ Some sheet → HasNoClosing text
 written_sheet_none text sheet e =
-    let word = unquoted (undollared text) in
+    let word = bare_name (undollared text) in
     either (HasNoClosing text) (length text == 0) (Some None) (option_map (λ n. Some n) (inside (sheet_of word))) sheet
     (λ empty _. ap (list_any is_closing) (empty_from text empty))
     (λ _ h.

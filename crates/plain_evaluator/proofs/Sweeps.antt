@@ -8,7 +8,7 @@ use Rattle.std.proofs.lemmas.Cmp.{tied_itself}
 use Rattle.std.proofs.lemmas.List.Filters.{length-filter_both}
 use Rattle.std.specs.FinMap.Entries.{find}
 use Rattle.calc_addr.specs.Places.{Place, place_cmp}
-use Rattle.calc_addr.proofs.Order.{place_cmp_total}
+use Rattle.calc_addr.proofs.Walking.Order.{place_cmp_total}
 use Rattle.calc_model.specs.declared.value.Value.{Value}
 use Rattle.calc_model.specs.declared.content.Content.{Content}
 use Rattle.calc_model.specs.declared.content.Content.TheVariants.{Empty, Formula}

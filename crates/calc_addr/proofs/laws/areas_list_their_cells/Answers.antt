@@ -1,5 +1,5 @@
 use Rattle.calc_addr.specs.Places.{places}
-use Rattle.calc_addr.proofs.Places.{AllPairs-from_rises, Contains-places, covers-contained, length-places, places_rise}
+use Rattle.calc_addr.proofs.Walking.Places.{AllPairs-from_rises, Contains-places, covers-contained, length-places, places_rise}
 use Rattle.calc_addr.proofs.laws.areas_list_their_cells.Goals as goal
 
 pub returns : goal.returns

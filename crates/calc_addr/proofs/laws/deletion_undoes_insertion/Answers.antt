@@ -1,7 +1,7 @@
 use Rattle.std.proofs.Common.{ap}
 use Rattle.std.specs.Prelude.{option_map}
 use Rattle.calc_addr.specs.Shifts.{on_area}
-use Rattle.calc_addr.proofs.ShiftLaws.{all_rows_stay_deleted, all_rows_stay_inserted, has_all_rows-reference_back, reference_after_deletion-insertion}
+use Rattle.calc_addr.proofs.Shifting.ShiftLaws.{all_rows_stay_deleted, all_rows_stay_inserted, has_all_rows-reference_back, reference_after_deletion-insertion}
 use Rattle.calc_addr.proofs.laws.deletion_undoes_insertion.Goals as goal
 
 pub returns : goal.returns

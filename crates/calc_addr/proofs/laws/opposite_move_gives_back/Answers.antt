@@ -1,4 +1,4 @@
-use Rattle.calc_addr.proofs.MoveLaws.{moved_reference-opposite}
+use Rattle.calc_addr.proofs.Moving.MoveLaws.{moved_reference-opposite}
 use Rattle.calc_addr.proofs.laws.opposite_move_gives_back.Goals as goal
 
 pub returns : goal.returns

@@ -1,6 +1,6 @@
-use Rattle.calc_addr.proofs.MoveLaws.{IsValidReference-moved}
-use Rattle.calc_addr.proofs.ShiftLaws.{IsValidReference-deletion, IsValidReference-insertion}
+use Rattle.calc_addr.proofs.Moving.MoveLaws.{moved_stays_valid}
+use Rattle.calc_addr.proofs.Shifting.ShiftLaws.{deleted_stays_valid, inserted_stays_valid}
 use Rattle.calc_addr.proofs.laws.references_stay_valid.Goals as goal
 
 pub returns : goal.returns
-returns c = record { inserted = IsValidReference-insertion; deleted = IsValidReference-deletion; moved = IsValidReference-moved }
+returns c = record { inserted = inserted_stays_valid; deleted = deleted_stays_valid; moved = moved_stays_valid }

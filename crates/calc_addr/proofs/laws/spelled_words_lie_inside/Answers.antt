@@ -1,6 +1,6 @@
-use Rattle.calc_addr.proofs.ReferenceInside.{spelled_reference-valid}
-use Rattle.calc_addr.proofs.SpelledInside.{spelled_area-IsRectangle, spelled_cell-IsPlace}
+use Rattle.calc_addr.proofs.References.Inside.{spelled_references_lie_inside}
+use Rattle.calc_addr.proofs.Spelling.Inside.{spelled_areas_lie_inside, spelled_cells_lie_inside}
 use Rattle.calc_addr.proofs.laws.spelled_words_lie_inside.Goals as goal
 
 pub returns : goal.returns
-returns c = record { cells = spelled_cell-IsPlace; areas = spelled_area-IsRectangle; references = spelled_reference-valid }
+returns c = record { cells = spelled_cells_lie_inside; areas = spelled_areas_lie_inside; references = spelled_references_lie_inside }

@@ -1,5 +1,5 @@
 use Rattle.std.proofs.Common.{of_z, sym, to_z, w32}
-use Rattle.calc_addr.proofs.Moving.{moved_spanned}
+use Rattle.calc_addr.proofs.Moving.MovedEnds.{moved_spanned}
 use Rattle.calc_addr.proofs.moves.move_ref.Goals as goal
 
 pub with_ends-requires-clause-span : goal.with_ends-requires-clause-span

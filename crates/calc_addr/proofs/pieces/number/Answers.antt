@@ -1,7 +1,7 @@
 use Rattle.std.proofs.Common.{get_or, arith}
 use Rattle.std.proofs.lemmas.Grind.{common_steps}
 use Rattle.std.proofs.lemmas.Int.Digits.{digits_value_more}
-use Rattle.calc_addr.proofs.Digits.{digit_value_is}
+use Rattle.calc_addr.proofs.Spelling.Digits.{digit_value_is}
 use Rattle.calc_addr.proofs.pieces.number.Goals as goal
 
 pub loop-digit-preserved : goal.loop-digit-preserved

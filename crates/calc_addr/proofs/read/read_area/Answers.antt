@@ -1,5 +1,5 @@
 use Rattle.std.proofs.Common.{sym, ◌∙◌}
-use Rattle.calc_addr.proofs.Joined.{first_is, sheet_part_inside}
+use Rattle.calc_addr.proofs.Spelling.Joined.{first_is, sheet_part_inside}
 use Rattle.calc_addr.proofs.read.read_area.Goals as goal
 
 pub invariant_of-result : goal.invariant_of-result

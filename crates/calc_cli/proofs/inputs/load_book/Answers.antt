@@ -8,4 +8,4 @@ returns-clause-told g c =
     λ book told.
     let opened = c.in_ok-open.ensures.opened book told in
     let same : c.deref.result.now ≡ c.in_ok-bytes.bytes.items = search rules in
-    loaded_whole c.in_ok-book.book book c.in_ok-bytes.bytes.items (c.in_ok-bytes.ensures.bytes book opened) (subst (IsLoaded c.in_ok-book.book) same c.in_ok-book.ensures)
+    loaded_whole c.in_ok-book.book book c.in_ok-bytes.bytes.items (c.in_ok-bytes.ensures.bytes book opened) (subst (IsLoaded c.in_ok-book.book) same c.in_ok-book.ensures.read)

@@ -1,9 +1,11 @@
 use Rattle.std.proofs.Common.{[], ◌≡◌, ◌+◌, Some, None, drop, ap, subst, ◌∙◌}
 use Rattle.calc_book.specs.declared.limits.TheConstants.{MOST_BYTES}
+use Rattle.calc_cli.specs.declared.limits.TheConstants.{MOST_SCRIPT_BYTES}
 use Rattle.formula_reader.specs.Fields.{field_of}
 use Rattle.formula_reader.proofs.Meaning.{field_reads}
 use Rattle.calc_cli.specs.Inputs.{IsLoaded, IsTaken}
-use Rattle.calc_cli.proofs.Ended.{book_ends, script_ends, ends_not_built, ends_too_long, ends_answered, still_told}
+use Rattle.calc_cli.proofs.Ended.{book_ends, script_ends, ends_not_built, ends_too_long, ends_answered}
+use Rattle.calc_cli.proofs.TakenBytes.{still_told, takes_no_more, takes_none}
 use Rattle.calc_cli.proofs.inputs.read_inputs.Goals as goal
 
 pub returns-in_default-clause-told : goal.returns-in_default-clause-told
@@ -61,3 +63,27 @@ pub returns-in-None-clause-left : goal.returns-in-None-clause-left
 returns-in-None-clause-left g c =
     λ book script told.
     c.in_ok-script.ensures.left script (still_told (g.D.Desk.script_left c.args.desk.now) (g.D.Desk.script_left c.load_book.new.desk) script c.in_ok-book.ensures.same_script told.has_script)
+
+pub returns-in_default-clause-script_within : goal.returns-in_default-clause-script_within
+returns-in_default-clause-script_within g c =
+    λ script left. takes_none (g.D.Desk.script_left c.args.desk.now) (g.D.Desk.script_left c.load_book.new.desk) script (MOST_SCRIPT_BYTES + 1) c.in_ok-book.ensures.same_script left
+
+pub returns-in_err-script-clause-book_within : goal.returns-in_err-script-clause-book_within
+returns-in_err-script-clause-book_within g c =
+    λ book told. takes_no_more (g.D.Desk.book_left c.args.desk.now) (g.D.Desk.book_left c.load_book.new.desk) (g.D.Desk.book_left c.read_script.new.desk) book (MOST_BYTES + 1) (c.in_ok-book.ensures.within book told) c.in_err-script.ensures.same_book
+
+pub returns-in-Some-2-clause-book_within : goal.returns-in-Some-2-clause-book_within
+returns-in-Some-2-clause-book_within g c =
+    λ book told. takes_no_more (g.D.Desk.book_left c.args.desk.now) (g.D.Desk.book_left c.load_book.new.desk) (g.D.Desk.book_left c.read_script.new.desk) book (MOST_BYTES + 1) (c.in_ok-book.ensures.within book told) c.in_ok-script.ensures.same_book
+
+pub returns-in-Some-2-clause-script_within : goal.returns-in-Some-2-clause-script_within
+returns-in-Some-2-clause-script_within g c =
+    λ script left. c.in_ok-script.ensures.within script (still_told (g.D.Desk.script_left c.args.desk.now) (g.D.Desk.script_left c.load_book.new.desk) script c.in_ok-book.ensures.same_script left)
+
+pub returns-in-None-clause-book_within : goal.returns-in-None-clause-book_within
+returns-in-None-clause-book_within g c =
+    λ book told. takes_no_more (g.D.Desk.book_left c.args.desk.now) (g.D.Desk.book_left c.load_book.new.desk) (g.D.Desk.book_left c.read_script.new.desk) book (MOST_BYTES + 1) (c.in_ok-book.ensures.within book told) c.in_ok-script.ensures.same_book
+
+pub returns-in-None-clause-script_within : goal.returns-in-None-clause-script_within
+returns-in-None-clause-script_within g c =
+    λ script left. c.in_ok-script.ensures.within script (still_told (g.D.Desk.script_left c.args.desk.now) (g.D.Desk.script_left c.load_book.new.desk) script c.in_ok-book.ensures.same_script left)

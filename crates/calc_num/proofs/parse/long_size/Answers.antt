@@ -6,7 +6,7 @@ use Rattle.std.proofs.lemmas.List.Folds.{list_all-append}
 use Rattle.std.specs.Char.{is_ascii_digit}
 use Rattle.std.specs.Int.{w128}
 use Rattle.std.specs.List.{list_all}
-use Rattle.calc_num.proofs.Sizes.{worth-size_of, size_of-none}
+use Rattle.calc_num.proofs.ReadNumbers.Sizes.{worth-size_of, size_of-none}
 use Rattle.calc_num.proofs.parse.long_size.Goals as goal
 
 pub returns-in-None : goal.returns-in-None

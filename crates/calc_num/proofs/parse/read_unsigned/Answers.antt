@@ -4,7 +4,7 @@ use Rattle.std.proofs.lemmas.Int.{to_z-of_z}
 use Rattle.std.specs.Option.{option_map}
 use Rattle.calc_num.specs.Scaling.{size_of, near}
 use Rattle.calc_num.specs.Spelling.{fraction_digits, behind_fraction, exponent}
-use Rattle.calc_num.proofs.Readings.{size_of-parts}
+use Rattle.calc_num.proofs.ReadNumbers.Readings.{size_of-parts}
 use Rattle.calc_num.proofs.parse.read_unsigned.Goals as goal
 
 pub returns : goal.returns

@@ -2,7 +2,7 @@ use Rattle.std.proofs.Common.{◌≡◌, ◌^◌, min, take, true, ap, sym, subs
 use Rattle.std.specs.Char.{is_ascii_digit}
 use Rattle.std.specs.List.{list_all}
 use Rattle.calc_num.specs.Spelling.{front_digits, digits_number}
-use Rattle.calc_num.proofs.Readings.{front-all}
+use Rattle.calc_num.proofs.ReadNumbers.Readings.{front-all}
 use Rattle.calc_num.proofs.parse.split_digits.Goals as goal
 
 pub invariant_of-result : goal.invariant_of-result

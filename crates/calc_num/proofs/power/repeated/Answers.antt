@@ -2,7 +2,7 @@ use Rattle.std.proofs.Common.{◌≡◌, Ok, ◌∙◌, ap, sym, rules, arith}
 use Rattle.std.proofs.lemmas.Bool.Decides.{Decides-int_eq}
 use Rattle.std.proofs.lemmas.Result.{err_from_is_err_and}
 use Rattle.calc_num.specs.Decimals.{repeated_product}
-use Rattle.calc_num.proofs.Powers.{repeated_product-more, repeated_product-fails, repeated_product-settles}
+use Rattle.calc_num.proofs.Arithmetic.Powers.{repeated_product-more, repeated_product-fails, repeated_product-settles}
 use Rattle.calc_num.proofs.power.repeated.Goals as goal
 
 pub loop-step-init : goal.loop-step-init

@@ -1,7 +1,7 @@
 use Rattle.std.proofs.Common.{◌+◌, arith}
 use Rattle.std.proofs.lemmas.Fmt.{length-decimal-le}
 use Rattle.std.proofs.lemmas.List.{take_rest}
-use Rattle.calc_num.proofs.Digits.{fraction_placed}
+use Rattle.calc_num.proofs.PrintedNumbers.Digits.{fraction_placed}
 use Rattle.calc_num.proofs.print.put_fraction.Goals as goal
 
 pub write_digits-requires : goal.write_digits-requires

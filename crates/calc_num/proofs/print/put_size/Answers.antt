@@ -1,7 +1,7 @@
 use Rattle.std.proofs.Common.{◌++◌, ◌∙◌, ap, refl, arith}
 use Rattle.std.specs.Fmt.{decimal}
 use Rattle.std.proofs.lemmas.Fmt.{length-decimal-le}
-use Rattle.calc_num.proofs.Digits.{whole_placed}
+use Rattle.calc_num.proofs.PrintedNumbers.Digits.{whole_placed}
 use Rattle.calc_num.proofs.print.put_size.Goals as goal
 
 pub write_digits-start-requires : goal.write_digits-start-requires

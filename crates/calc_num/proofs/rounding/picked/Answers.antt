@@ -1,12 +1,23 @@
-use Rattle.std.proofs.Common.{sym}
-use Rattle.calc_num.proofs.Signs.{nearest-sign}
-use Rattle.calc_num.proofs.Picks.{pick-floor_negative}
+use Rattle.std.proofs.Common.{◌≡◌, ◌+◌, ◌*◌, ap, sym, ◌∙◌, arith}
+use Rattle.std.proofs.lemmas.Bool.{cond-true, cond-false}
+use Rattle.std.proofs.lemmas.Nat.{div-add-mod'}
+use Rattle.calc_num.specs.Decimals.{with_sign, pick}
 use Rattle.calc_num.proofs.rounding.picked.Goals as goal
 
-pub returns-in-Nearest-clause-value : goal.returns-in-Nearest-clause-value
-returns-in-Nearest-clause-value c =
-    rw c.in-Nearest.is (sym (nearest-sign c.args.negative c.args.size c.args.unit c.requires.unit.0))
+pub returns-then-is_one_more-clause-value : goal.returns-then-is_one_more-clause-value
+returns-then-is_one_more-clause-value c =
+    let count = c.divide-count.result.0 in
+    let parts : count * c.args.unit + c.divide-count.result.1 ≡ c.args.size =
+    rw (c.divide-count.ensures.quotient, c.divide-count.ensures.rest) (div-add-mod' c.args.size c.args.unit) in
+    ap (with_sign c.args.negative) (sym (cond-true c.is_one_more.result (count + 1) count c.if-is_one_more.true)) ∙ c.is_one_more.ensures count ∙ ap (λ size. pick c.args.way (with_sign c.args.negative size) c.args.unit) parts
 
-pub returns-in-Floor-clause-value : goal.returns-in-Floor-clause-value
-returns-in-Floor-clause-value c =
-    rw (c.in-Floor.is, c.if-negative.true) (pick-floor_negative c.args.size c.args.unit c.requires.unit.0)
+pub returns-then-is_one_more-clause-near : goal.returns-then-is_one_more-clause-near
+returns-then-is_one_more-clause-near c =
+    rw c.divide-count.ensures.quotient (omega (arith, div-add-mod' c.args.size c.args.unit))
+
+pub returns-else-is_one_more-clause-value : goal.returns-else-is_one_more-clause-value
+returns-else-is_one_more-clause-value c =
+    let count = c.divide-count.result.0 in
+    let parts : count * c.args.unit + c.divide-count.result.1 ≡ c.args.size =
+    rw (c.divide-count.ensures.quotient, c.divide-count.ensures.rest) (div-add-mod' c.args.size c.args.unit) in
+    ap (with_sign c.args.negative) (sym (cond-false c.is_one_more.result (count + 1) count c.if-is_one_more.false)) ∙ c.is_one_more.ensures count ∙ ap (λ size. pick c.args.way (with_sign c.args.negative size) c.args.unit) parts

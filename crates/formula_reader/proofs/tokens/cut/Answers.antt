@@ -1,6 +1,6 @@
 use Rattle.std.proofs.Common.{◌+◌, take, drop, sym, ap, ◌∙◌}
 use Rattle.std.proofs.lemmas.List.{take_rest}
-use Rattle.calc_addr.proofs.Cuts.{found_at, not_found}
+use Rattle.byte_cuts.proofs.Places.{found_at, not_found}
 use Rattle.formula_reader.specs.Leaves.{is_closing}
 use Rattle.formula_reader.proofs.tokens.cut.Goals as goal
 

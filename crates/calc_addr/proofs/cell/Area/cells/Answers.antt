@@ -1,6 +1,6 @@
 use Rattle.std.proofs.Common.{◌≡◌, true, subst}
 use Rattle.calc_addr.specs.Places.{covers}
-use Rattle.calc_addr.proofs.Walking.{places_from-corner}
+use Rattle.calc_addr.proofs.Walking.Walks.{places_from-corner}
 use Rattle.calc_addr.proofs.cell.Area.cells.Goals as goal
 
 pub returns : goal.returns

@@ -1,6 +1,6 @@
 use Rattle.std.proofs.Common.{◌≡◌, ◌∷◌, rules}
 use Rattle.calc_addr.specs.Places.{places_from}
-use Rattle.calc_addr.proofs.Walking.{walk-step}
+use Rattle.calc_addr.proofs.Walking.Walks.{walk-step}
 use Rattle.calc_addr.proofs.walk.AreaCellsIterator.next.Goals as goal
 
 pub returns-clause-goes : goal.returns-clause-goes

@@ -1,5 +1,5 @@
 use Rattle.std.proofs.Common.{length, arith, ap, append_assoc, ◌∙◌, refl, length-append}
-use Rattle.calc_addr.proofs.Columns.{column_letters_one, column_letters_more}
+use Rattle.calc_addr.proofs.Spelling.Columns.{column_letters_one, column_letters_more}
 use Rattle.calc_addr.proofs.write.AddrText.+push_letters.Goals as goal
 use Rattle.calc_addr.proofs.write.AddrText.+push_letters.Goals.{then-col-gt26, else-col-gt26}
 

@@ -1,5 +1,5 @@
 use Rattle.std.proofs.Common.{length, ap, ◌∙◌, arith, length-append}
-use Rattle.calc_addr.proofs.Columns.{length-column_letters}
+use Rattle.calc_addr.proofs.Spelling.Columns.{length-column_letters}
 use Rattle.calc_addr.proofs.write.AddrText.push_column.Goals as goal
 use Rattle.calc_addr.proofs.write.AddrText.push_column.Goals.{then-col, else-col}
 

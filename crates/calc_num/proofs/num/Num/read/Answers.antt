@@ -1,7 +1,7 @@
 use Rattle.std.proofs.Common.{◌∙◌, ap}
 use Rattle.calc_num.specs.Scaling.{size_reading}
 use Rattle.calc_num.specs.Spelling.{is_negative, unsigned, reading_of}
-use Rattle.calc_num.proofs.Readings.{reading_of-size}
+use Rattle.calc_num.proofs.ReadNumbers.Readings.{reading_of-size}
 use Rattle.calc_num.proofs.num.Num.read.Goals as goal
 
 pub returns : goal.returns

@@ -2,8 +2,8 @@ use Rattle.std.proofs.Common.{◌≡◌, ◌^◌, ◌*◌, ◌∙◌, ap, sym, m
 use Rattle.std.specs.Int.{w64}
 use Rattle.std.proofs.lemmas.Int.{to_z-of_z}
 use Rattle.calc_num.specs.Decimals.{checked, with_sign, pick, fewer_than_nine}
-use Rattle.calc_num.proofs.Signs.{sign-size}
-use Rattle.calc_num.proofs.Picks.{rounding-sizes}
+use Rattle.calc_num.proofs.Arithmetic.Signs.{sign-size}
+use Rattle.calc_num.proofs.Arithmetic.Picks.{round_to_of_sizes}
 use Rattle.calc_num.proofs.num.Num.round_to.Goals as goal
 
 pub returns : goal.returns
@@ -19,4 +19,4 @@ returns c =
     let whole = ap (λ s. with_sign s c.size.result) c.is_negative.ensures ∙ ap (with_sign (int_lt n (pos 0))) c.size.ensures.value ∙ sign-size n in
     let picks : with_sign (int_lt n (pos 0)) count ≡ pick way n (10 ^ places) =
     ap (λ s. with_sign s count) (sym c.is_negative.ensures) ∙ c.picked-count.ensures.value ∙ ap (λ k. pick way k c.unit_of-unit.result) whole ∙ ap (pick way n) unit in
-    c.from_any_size.ensures ∙ ap (λ s. checked (with_sign s (count * c.unit_of-unit.result))) c.is_negative-2.ensures ∙ ap (λ u. checked (with_sign (int_lt n (pos 0)) (count * u))) unit ∙ rounding-sizes way c.args.digits n count (omega arith) fewer picks
+    c.from_any_size.ensures ∙ ap (λ s. checked (with_sign s (count * c.unit_of-unit.result))) c.is_negative-2.ensures ∙ ap (λ u. checked (with_sign (int_lt n (pos 0)) (count * u))) unit ∙ round_to_of_sizes way c.args.digits n count (omega arith) fewer picks

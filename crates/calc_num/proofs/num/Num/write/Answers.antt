@@ -4,8 +4,8 @@ use Rattle.std.proofs.lemmas.Int.{to_z-of_z}
 use lib.Signed.{le_z}
 use Rattle.calc_num.specs.Decimals.{IsRaw}
 use Rattle.calc_num.specs.Spelling.{reading}
-use Rattle.calc_num.proofs.Digits.{minus_placed, printed-negative, printed-positive}
-use Rattle.calc_num.proofs.RoundTrip.{reading-printed}
+use Rattle.calc_num.proofs.PrintedNumbers.Digits.{minus_placed, printed-negative, printed-positive}
+use Rattle.calc_num.proofs.PrintedNumbers.RoundTrip.{reading-printed}
 use Rattle.calc_num.proofs.num.Num.write.Goals as goal
 
 pub returns-clause-value : goal.returns-clause-value

@@ -1,11 +1,7 @@
 use Rattle.std.proofs.Common.{[], ap, sym, ◌∙◌, arith}
 use Rattle.calc_num.specs.Scaling.{worth}
-use Rattle.std.proofs.Math.Nat.{pow-le-pow_right}
-use Rattle.calc_num.proofs.Scale.{worth-far}
+use Rattle.calc_num.proofs.ReadNumbers.Scale.{worth-far}
 use Rattle.calc_num.proofs.parse.Partial.finish.Goals as goal
-
-pub pow-requires : goal.pow-requires
-pow-requires c = omega (arith, pow-le-pow_right {n = 10} (omega arith) {i = c.in-Some.places} {j = 26} (omega arith))
 
 pub returns-then-places-ge27 : goal.returns-then-places-ge27
 returns-then-places-ge27 c =

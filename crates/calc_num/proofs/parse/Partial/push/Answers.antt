@@ -1,6 +1,6 @@
 use Rattle.std.proofs.Common.{◌≡◌, ◌+◌, ◌-◌, ◌*◌, ◌^◌, ◌∷◌, min, suc, Some, ap, sym, ◌∙◌, arith}
 use Rattle.calc_num.specs.Scaling.{worth}
-use Rattle.calc_num.proofs.Scale.{push_digit, push_last_down, push_last_up}
+use Rattle.calc_num.proofs.ReadNumbers.Scale.{push_digit, push_last_down, push_last_up}
 use Rattle.calc_num.proofs.parse.Partial.push.Goals as goal
 use Rattle.calc_num.proofs.parse.Partial.push.Goals.{then-digit-lt53, else-digit-lt53}
 

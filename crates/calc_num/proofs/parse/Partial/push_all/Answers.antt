@@ -3,7 +3,7 @@ use Rattle.std.specs.Char.{is_ascii_digit}
 use Rattle.std.specs.List.{list_all}
 use Rattle.std.proofs.lemmas.List.{drop_more}
 use Rattle.calc_num.specs.Scaling.{worth}
-use Rattle.calc_num.proofs.Scale.{all_left}
+use Rattle.calc_num.proofs.ReadNumbers.Scale.{all_left}
 use Rattle.calc_num.proofs.parse.Partial.push_all.Goals as goal
 
 pub loop-digit-preserved : goal.loop-digit-preserved

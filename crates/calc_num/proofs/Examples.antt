@@ -1,0 +1,4 @@
+-- Worked examples.
+mod Decimals
+mod Readings
+mod Prints

@@ -1,6 +1,0 @@
-use Rattle.std.proofs.Common.{◌*◌, ap}
-use Rattle.calc_num.proofs.Scale.{POWERS-at}
-use Rattle.calc_num.proofs.parse.with_zeros.Goals as goal
-
-pub returns-clause-value : goal.returns-clause-value
-returns-clause-value c = ap (λ power. c.args.number * power) (POWERS-at c.args.zeros c.requires.zeros)
