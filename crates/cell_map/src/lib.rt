@@ -10,4 +10,4 @@ mod show;
 
 pub use cells::CellMap;
 pub use results::ResultMap;
-pub use show::{number_shown, shown};
+pub use show::{number_shown, show_cell, shown};
