@@ -1,5 +1,5 @@
 -- What one more result does to what is known of a plain map.
-use Rattle.std.proofs.Common.{◌≡◌, ℕ, ◌<◌, ◌≤◌, Bool, true, false, not, ◌||◌, cond, nat_lt, List, [], ◌∷◌, length, Option, Some, None, is_some, unwrap_or, Bor, refl, sym, ap, subst, ◌∙◌, arith}
+use Rattle.std.proofs.Common.{◌≡◌, ℕ, ◌<◌, ◌≤◌, Bool, true, false, not, ◌||◌, cond, nat_lt, List, [], ◌∷◌, length, Option, Some, None, is_some, unwrap_or, Bor, refl, sym, ap, subst, ◌∙◌}
 use Rattle.std.proofs.lemmas.Bool.{ltb-false, ltb-true}
 use Rattle.std.specs.List.{list_all}
 use Rattle.std.specs.Option.{option_copied}
@@ -12,13 +12,11 @@ use Rattle.calc_model.specs.declared.value.Value.{Value}
 use Rattle.calc_model.specs.declared.content.Content.{Content}
 use Rattle.calc_model.specs.declared.content.Content.TheVariants.{Empty, Formula}
 use Rattle.calc_model.specs.declared.tree.Tree.{Tree}
-use Rattle.calc_model.specs.Books.{Book, content_at, area_named, is_formula}
-use Rattle.calc_model.specs.Eval.{eval, top}
-use Rattle.calc_model.specs.Results.{Results, is_known, is_ready, is_tree_ready, shown_by, IsSound, IsFinished, Sets}
+use Rattle.calc_model.specs.Books.{Book, content_at, is_formula}
+use Rattle.calc_model.specs.Results.{Results, is_known, is_ready, IsFinished, Sets}
 use Rattle.calc_model.proofs.Pigeonhole.{count, count_within, found_passes, same_counted}
 use Rattle.calc_model.proofs.Places.{same_places}
-use Rattle.calc_model.proofs.Readiness.{ready-Formula}
-use Rattle.calc_model.proofs.Knowing.{sound_with, unknown}
+use Rattle.calc_model.proofs.Knowing.{unknown}
 use Rattle.calc_model.proofs.Areas.{both_true}
 use Rattle.plain_evaluator.specs.Plain.{AreReaders, known_count, is_settled}
 use Rattle.plain_evaluator.proofs.Formulas.{Reading, readers_all}
