@@ -1,5 +1,6 @@
 -- How the inputs lead to the end of a run.
-use Rattle.std.proofs.Common.{[], ◌≡◌, ℕ, ◌+◌, ◌≤◌, ◌<◌, Bool, true, false, not, ◌&&◌, cond, List, length, take, drop, Option, None, Some, refl, sym, ap, subst, ◌∙◌, arith, nat_lt, nat_le, ◌⊎◌, inl, inr}
+use Rattle.std.proofs.Common.{[], ◌≡◌, ℕ, ◌+◌, ◌≤◌, ◌<◌, Bool, true, false, not, ◌&&◌, cond, List, length, take, drop, Option, None, Some, refl, sym, ap, subst, ◌∙◌, append-nil, arith, nat_lt, nat_le, ◌⊎◌, inl, inr}
+use Rattle.std.specs.Io.KnownBytes.{Appends}
 use Rattle.std.proofs.KnownBytes.{Appends-nil}
 use Rattle.std.proofs.lemmas.List.{drop_all}
 use Rattle.std.proofs.lemmas.Bool.{lt-leb, ltb-true, both_ways, leb-true}
@@ -8,15 +9,17 @@ use Rattle.std.specs.List.{list_all}
 use Rattle.byte_cuts.specs.Lines.{lines_of}
 use Rattle.calc_model.specs.Books.{Book}
 use Rattle.formula_reader.specs.Fields.{field_of}
+use Rattle.formula_reader.proofs.Meaning.{field_reads}
 use Rattle.calc_book.specs.declared.limits.TheConstants.{MOST_BYTES}
 use Rattle.calc_book.specs.BookForm.{book_read, is_plain_book, is_plain_byte, is_plain_record}
 use Rattle.calc_book.proofs.Parts.{first_of}
 use Rattle.calc_cli.specs.declared.limits.TheConstants.{MOST_SCRIPT_BYTES}
-use Rattle.calc_cli.specs.declared.status.TheConstants.{BOOK_REFUSED, LINE_REFUSED, SCRIPT_TOO_LONG}
-use Rattle.calc_cli.specs.Ending.{Ending, ending, calculated, not_built, too_long}
+use Rattle.calc_cli.specs.declared.status.TheConstants.{BOOK_REFUSED, DESK_FAILED, DONE, LINE_REFUSED, SCRIPT_TOO_LONG}
+use Rattle.calc_cli.specs.Ending.{Ending, answered, ending, calculated, not_built, too_long}
+use Rattle.calc_cli.specs.Output.{Session, has_refusal, output}
 use Rattle.calc_cli.specs.Inputs.{IsLoaded}
 use Rattle.calc_io.specs.Desk.{Books}
-use Rattle.calc_cli.specs.Runs.{Ends, LeavesInputs, Serves, Tells}
+use Rattle.calc_cli.specs.Runs.{Ends, EndsSomehow, IsUndisturbed, LeavesInputs, Serves, Tells}
 use Rattle.calc_cli.specs.Words.{book_name}
 use Rattle.calc_cli.proofs.TakenBytes.{longer, whole}
 
@@ -103,3 +106,26 @@ told_of books script_left words book script name serves named =
 
 pub not_served : (books : Option Books) (script_left : Option (List ℕ)) (words : List (List ℕ)) (book script : List ℕ) → Serves books script_left words book script → book_name words ≡ None → ⊥
 not_served books script_left words book script serves none = cc (serves.is_named, none)
+
+-- the script's lines were answered, and all that they write is written
+pub answered_ends : (status : ℕ) (refused : Bool) (session : Session) (lines : List (List ℕ)) (old new : Option (List ℕ)) → status ≡ cond refused LINE_REFUSED DONE → status < DESK_FAILED → refused ≡ has_refusal field_of session 1 lines → Appends old new (output field_of session 1 lines) → Ends status old new (answered field_of session lines)
+answered_ends status refused session lines old new status_is low refused_is written = record {
+  done = λ _. status_is ∙ ap (λ b. cond b LINE_REFUSED DONE) refused_is;
+  all = λ _. written;
+  prefix = (output field_of session 1 lines, [], sym (append-nil (output field_of session 1 lines)), written);
+  nothing = λ desk. absurd (omega arith);
+}
+
+-- where a run was disturbed before it wrote, it ended as for any book and script
+pub disturbed : (status : ℕ) (old : Option (List ℕ)) → (IsUndisturbed status → ⊥) → EndsSomehow status old old
+disturbed status old not =
+    let end = ending field_of [] [] in (
+      end,
+      (field_of, field_reads, [], [], refl),
+      record {
+        done = λ calm. absurd (not calm);
+        all = λ calm. absurd (not calm);
+        prefix = ([], end.written, refl, Appends-nil old);
+        nothing = λ _. Appends-nil old;
+      },
+    )

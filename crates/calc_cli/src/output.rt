@@ -7,11 +7,12 @@ ghost use Rattle.formula_reader.specs.Fields.{field_of};
 ghost use Rattle.calc_script.specs.Commands.{line_of};
 ghost use Rattle.calc_cli.specs.Output.{answer, has_refusal, output};
 ghost use Rattle.calc_cli.specs.Runs.{GrowsWithin};
-ghost use Rattle.calc_cli.specs.Sessions.{session_of};
+ghost use Rattle.calc_cli.specs.Sessions.{Replies, session_of};
 
 use crate::limits::MOST_SCRIPT_BYTES;
-use crate::replies::answer_line;
+use crate::replies::{Reply, answer_line};
 use crate::written::write_all;
+use calc_addr::NoMemory;
 use calc_io::{DeviceFault, Sink};
 use calc_script::{lines, read_line};
 use plain_workbook::PlainWorkbook;
@@ -80,8 +81,45 @@ fn write_line<K: Sink>(
         (length (answer (session_of workbook.old) number (line_of field_of line.now)).text)
         → K.faults sink.new ≡ K.faults sink.old }
 {
-    let line = read_line(alloc, line).map_err(DeviceFault::NoMemory)?;
-    let reply = answer_line(alloc, workbook, number, &line).map_err(DeviceFault::NoMemory)?;
-    write_all(sink, &reply.text).map_err(DeviceFault::Failed)?;
-    Ok(reply.refused)
+    match reply_to(alloc, workbook, number, line) {
+        Ok(reply) => write_reply(sink, &reply),
+        Err(refused) => Err(DeviceFault::NoMemory(refused)),
+    }
+}
+
+/// Does what a line says.
+fn reply_to(
+    alloc: Global,
+    workbook: &mut PlainWorkbook,
+    number: usize,
+    line: &[u8],
+) -> Result<Reply, NoMemory>
+    ensures { Replies result (session_of workbook.new)
+        (answer (session_of workbook.old) number (line_of field_of line.now)) }
+{
+    let line = read_line(alloc, line)?;
+    answer_line(alloc, workbook, number, &line)
+}
+
+/// Writes what a line writes, and answers whether the line is refused.
+fn write_reply<K: Sink>(sink: &mut K, reply: &Reply) -> Result<bool, DeviceFault>
+    ensures ok { OnOk result (Appends (K.written sink.old) (K.written sink.new) reply.now.text.items) }
+    ensures refused { IfOk result (λ refused. refused ≡ reply.now.refused) }
+    ensures err { OnErr result (GrowsWithin (K.written sink.old) (K.written sink.new)
+        reply.now.text.items) }
+
+    ensures later { K.faults sink.old ≤ K.faults sink.new }
+    ensures cause { HasFailed result → Rose (K.faults sink.old) (K.faults sink.new) }
+
+    ensures room { OnOk result (RoomFalls (K.room sink.old) (K.room sink.new)
+        (length reply.now.text.items)) }
+    ensures fits { HasRoom (K.room sink.old) (length reply.now.text.items)
+        → HasFailed result → ⊥ }
+    ensures no_fault { HasRoom (K.room sink.old) (length reply.now.text.items)
+        → K.faults sink.new ≡ K.faults sink.old }
+{
+    match write_all(sink, &reply.text) {
+        Ok(()) => Ok(reply.refused),
+        Err(failed) => Err(DeviceFault::Failed(failed)),
+    }
 }
