@@ -6,7 +6,6 @@ pub mod Rounds
 pub mod Shown
 pub mod Knowing
 pub mod Places
-pub mod Counting
 pub mod Pigeonhole
 pub mod Readiness
 pub mod Building

@@ -1,8 +1,11 @@
 -- Counting the items of a list that pass a test, and what follows where a count can't grow: of two tests, where the
 -- first implies the second and the counts are equal, the tests are; of rounds of tests, each of which passes what the
 -- one before it did, one of the first passes all that the next one does.
-use Rattle.std.proofs.Common.{◌≡◌, ℕ, zero, suc, ◌+◌, ◌<◌, ◌≤◌, nat_le, Bool, true, false, cond, List, [], ◌∷◌, length, get_or, refl, arith, ◌⊎◌, inl, inr}
+use Rattle.std.proofs.Common.{◌≡◌, ℕ, zero, suc, ◌+◌, ◌<◌, ◌≤◌, nat_le, Bool, true, false, cond, List, [], ◌∷◌, length, get_or, Some, refl, sym, subst, arith, ◌⊎◌, inl, inr}
 use Rattle.std.specs.List.{AllByRecursion, filter}
+use Rattle.std.specs.FinMap.Entries.{find}
+use Rattle.std.specs.Ordering.{eq_by_cmp}
+use Rattle.std.specs.declared.cmp.Ordering.{Ordering}
 use Rattle.std.proofs.lemmas.Bool.{leb-true}
 use Rattle.std.proofs.lemmas.Bool.Decides.{nat_tests}
 
@@ -85,3 +88,14 @@ module _ {X : Type 0} (xs : List X) (round : ℕ → X → Bool) (bound : ℕ) (
         | inl full ↦ (full.0, omega arith, full.2)
         | inr many ↦ absurd (omega (arith, many, bounded (suc bound)))
       ]
+
+-- what each entry of a list passes, the entry passes that a search finds
+pub found_passes : {K X : Type 0} (R : K → K → Ordering) (exact : (a b : K) → eq_by_cmp R a b ≡ true → a ≡ b) (P : K × X → Type 0) (es : List (K × X)) (q : K) (x : X) → AllByRecursion P es → find R q es ≡ Some x → P (q, x)
+found_passes R exact P [] q x all at = cc
+found_passes {K} {X} R exact P (e ∷ es) q x all at =
+    elim (eq_by_cmp R q e.0) as (λ b. eq_by_cmp R q e.0 ≡ b → cond b (Some e.1) (find R q es) ≡ Some x → P (q, x)) [
+      | true ↦ λ tied here.
+          let same : e.1 ≡ x = cc in
+          subst (λ (k : K). P (k, x)) (sym (exact q e.0 tied)) (subst (λ (y : X). P (e.0, y)) same all.0)
+      | false ↦ λ apart later. found_passes R exact P es q x all.1 later
+    ] refl at

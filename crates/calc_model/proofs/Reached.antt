@@ -1,6 +1,6 @@
 -- Which cells reach one of some cells by reading: as many rounds as there are formulas find all of them.
-use Rattle.std.proofs.Common.{◌≡◌, ℕ, zero, suc, add-zero, ◌+◌, ◌-◌, ◌≤◌, Bool, true, false, ◌||◌, List, [], ◌∷◌, refl, ap, subst, ◌∙◌, arith, ◌⊎◌, inl, inr, nat_le}
-use Rattle.std.proofs.lemmas.Bool.{leb-true}
+use Rattle.std.proofs.Common.{◌≡◌, ℕ, zero, suc, add-zero, ◌+◌, ◌-◌, ◌≤◌, Bool, true, false, ◌&&◌, ◌||◌, List, [], ◌∷◌, refl, ap, subst, ◌∙◌, arith, ◌⊎◌, inl, inr}
+use Rattle.std.proofs.lemmas.Bool.{and_from}
 use Rattle.std.specs.List.{list_any}
 use Rattle.std.specs.Ordering.{eq_by_cmp, is_eq}
 use Rattle.std.proofs.lemmas.Cmp.{tied_itself}
@@ -12,8 +12,9 @@ use Rattle.calc_model.specs.Books.{Book, content_at, area_named, is_formula, for
 use Rattle.calc_model.specs.Reads.{reads, content_areas}
 use Rattle.calc_model.specs.Touched.{CellSet}
 use Rattle.calc_model.specs.Stale.{any_cell, reaches_in, reaches, Reaches, ReachesAtAll, ReachesIndeed, is_formula_cell}
-use Rattle.calc_model.proofs.Counting.{count, count_le_all, same_where_counted}
-use Rattle.calc_model.proofs.Rounds.{held_entry, more_lt}
+use Rattle.calc_model.proofs.Areas.{both_true}
+use Rattle.calc_model.proofs.Pigeonhole.{IsFull, count, count_le, found_passes, full_round, same_counted}
+use Rattle.calc_model.proofs.Rounds.{held_entry}
 use Rattle.calc_model.proofs.Places.{same_places, places_total}
 
 pub or_true : (b : Bool) → (b || true) ≡ true
@@ -96,10 +97,6 @@ module _ (book : Book) (cells : CellSet) where
   all_in_last k last q (Reaches.by_reading {read = read} reads_it reached) =
       last q (or_second (cells q) (any_cell (reaches_in book cells k) (reads book q)) (reads_passing (reaches_in book cells k) (reads book q) read reads_it (all_in_last k last read reached)))
 
-  -- how many formulas a round has found
-  reached_count : ℕ → ℕ
-  reached_count k = count place_cmp same_places is_formula (reaches_in book cells k) book.cells
-
   reads_none : (x : Content) (q : Place) → is_formula x ≡ false → content_areas q (area_named book) x ≡ []
   reads_none Empty q h = refl
   reads_none (Constant v) q h = refl
@@ -116,34 +113,31 @@ module _ (book : Book) (cells : CellSet) where
       ] in
       subst (λ n. reaches_in book cells n q ≡ true) (add-zero k) (later 0 k q is)
 
-  last_by_count : (k : ℕ) → reached_count (suc k) ≤ reached_count k → IsLast k
-  unfolding IsLast reached_count content_at
-  last_by_count k le q h =
+  -- an entry that holds a formula, which a round has found
+  abbrev reached_entry : ℕ → Place × Content → Bool
+  reached_entry k entry = is_formula entry.1 && reaches_in book cells k entry.0
+
+  reached_again : (k : ℕ) (entry : Place × Content) → reached_entry k entry ≡ true → reached_entry (suc k) entry ≡ true
+  reached_again k entry h = let parts = both_true _ _ h in and_from _ _ parts.0 (once_more k entry.0 parts.1)
+
+  reached_bound : (k : ℕ) → count (reached_entry k) book.cells ≤ formula_count book
+  unfolding formula_count
+  reached_bound k = count_le (reached_entry k) (λ entry. is_formula entry.1) (λ entry h. (both_true _ _ h).0) book.cells
+
+  last_of_full : (k : ℕ) → IsFull book.cells reached_entry (formula_count book) reached_bound k → IsLast k
+  unfolding IsLast content_at
+  last_of_full k full q h =
       elim (is_formula (content_at book q)) as (λ b. is_formula (content_at book q) ≡ b → reaches_in book cells k q ≡ true) [
         | true ↦ λ is.
             let entry = held_entry (find place_cmp q book.cells) is in
-            same_where_counted place_cmp same_places is_formula (reaches_in book cells k) (reaches_in book cells (suc k)) (once_more k) book.cells q entry.0 le entry.1 entry.2 h
+            let all = same_counted (reached_entry k) (reached_entry (suc k)) (reached_again k) book.cells full in
+            let here = found_passes place_cmp same_places (λ e. reached_entry (suc k) e ≡ true → reached_entry k e ≡ true) book.cells q entry.0 all entry.1 in
+            (both_true _ _ (here (and_from _ _ entry.2 h))).1
         | false ↦ λ is_not. constant_reached k q is_not h
       ] refl
 
-  counted : (k : ℕ) → ((j : ℕ) × (j ≤ k) × IsLast j) ⊎ (k ≤ reached_count k)
-  counted zero = inr (omega arith)
-  counted (suc k) =
-      elim (counted k) [
-        | inl last ↦ inl (last.0, omega arith, last.2)
-        | inr few ↦ elim (nat_le (reached_count (suc k)) (reached_count k)) as (λ b. nat_le (reached_count (suc k)) (reached_count k) ≡ b → ((j : ℕ) × (j ≤ suc k) × IsLast j) ⊎ (suc k ≤ reached_count (suc k))) [
-          | true ↦ λ no_more. inl (k, omega arith, last_by_count k (leb-true (reached_count (suc k)) (reached_count k) no_more))
-          | false ↦ λ more. inr (more_lt (reached_count (suc k)) (reached_count k) k more few)
-        ] refl
-      ]
-
   some_last : (j : ℕ) × (j ≤ formula_count book + 1) × IsLast j
-  unfolding reached_count formula_count
-  some_last =
-      elim (counted (suc (formula_count book))) [
-        | inl last ↦ (last.0, omega arith, last.2)
-        | inr many ↦ absurd (omega (arith, many, count_le_all place_cmp same_places is_formula (reaches_in book cells (suc (formula_count book))) book.cells))
-      ]
+  some_last = let full = full_round book.cells reached_entry (formula_count book) reached_bound in (full.0, full.1, last_of_full full.0 full.2)
 
 -- whatever reaches one of the cells does so within the rounds of the definition
 pub reaches_at_all : ReachesAtAll

@@ -1,8 +1,7 @@
 -- Rounds of grounding: what one round grounds the next one does, and after as many rounds as there are
 -- formulas nothing more is grounded.
-use Rattle.std.proofs.Common.{◌≡◌, ℕ, zero, suc, ◌+◌, ◌-◌, ◌≤◌, Bool, true, false, not, List, [], ◌∷◌, refl, ap, subst, arith, Option, Some, None, ◌⊎◌, inl, inr, unwrap_or, nat_le}
-use Rattle.std.proofs.lemmas.Bool.{leb-true, not-true, not-false}
-use Rattle.std.proofs.lemmas.Bool.Decides.{nat_tests}
+use Rattle.std.proofs.Common.{◌≡◌, ℕ, zero, suc, ◌+◌, ◌-◌, ◌≤◌, Bool, true, false, not, ◌&&◌, List, [], ◌∷◌, refl, ap, subst, arith, Option, Some, None, unwrap_or}
+use Rattle.std.proofs.lemmas.Bool.{and_from, not-true, not-false}
 use Rattle.std.specs.List.{list_all}
 use Rattle.std.specs.FinMap.Entries.{find}
 use Rattle.calc_addr.specs.Places.{Place, Rectangle, place_cmp, places}
@@ -12,7 +11,7 @@ use Rattle.calc_model.specs.Books.{Book, content_at, area_named, is_formula, for
 use Rattle.calc_model.specs.Reads.{reads, content_areas}
 use Rattle.calc_model.specs.Grounded.{all_cells, is_grounded, is_circular}
 use Rattle.calc_model.proofs.Areas.{both_true, places_all, all_places}
-use Rattle.calc_model.proofs.Counting.{count, count_le_all, same_where_counted}
+use Rattle.calc_model.proofs.Pigeonhole.{IsFull, count, count_le, found_passes, full_round, same_counted}
 use Rattle.calc_model.proofs.Places.{same_places}
 
 pub all_cells_more : (f g : Place → Bool) → ((q : Place) → f q ≡ true → g q ≡ true) → (areas : List Rectangle) → all_cells f areas ≡ true → all_cells g areas ≡ true
@@ -27,10 +26,6 @@ all_cells_more f g implies (a ∷ areas) h =
 pub held_entry : (o : Option Content) → is_formula (unwrap_or o Empty) ≡ true → (x : Content) × (o ≡ Some x) × (is_formula x ≡ true)
 held_entry (Some x) h = (x, refl, h)
 held_entry None h = cc
-
--- a count that grows past one of so many is greater than these
-pub more_lt : (m n k : ℕ) → nat_le m n ≡ false → k ≤ n → suc k ≤ m
-more_lt m n k h le = grind (arith, nat_tests)
 
 module _ (book : Book) where
   -- a cell that holds no formula reads nothing
@@ -76,38 +71,31 @@ module _ (book : Book) where
       let e : suc i + j ≡ suc (i + j) = omega arith in
       back_to_last j h i p (last_later j h i p (subst (λ n. is_grounded book n p ≡ true) e g))
 
-  -- how many formulas a round has grounded
-  grounded_count : ℕ → ℕ
-  grounded_count k = count place_cmp same_places is_formula (is_grounded book k) book.cells
+  -- an entry that holds a formula, which a round has grounded
+  abbrev grounded_entry : ℕ → Place × Content → Bool
+  grounded_entry k entry = is_formula entry.1 && is_grounded book k entry.0
 
-  last_by_count : (k : ℕ) → grounded_count (suc k) ≤ grounded_count k → IsLast k
-  unfolding IsLast grounded_count content_at
-  last_by_count k le p g =
+  grounded_again : (k : ℕ) (entry : Place × Content) → grounded_entry k entry ≡ true → grounded_entry (suc k) entry ≡ true
+  grounded_again k entry h = let parts = both_true _ _ h in and_from _ _ parts.0 (grounded_once_more k entry.0 parts.1)
+
+  grounded_bound : (k : ℕ) → count (grounded_entry k) book.cells ≤ formula_count book
+  unfolding formula_count
+  grounded_bound k = count_le (grounded_entry k) (λ entry. is_formula entry.1) (λ entry h. (both_true _ _ h).0) book.cells
+
+  last_of_full : (k : ℕ) → IsFull book.cells grounded_entry (formula_count book) grounded_bound k → IsLast k
+  unfolding IsLast content_at
+  last_of_full k full p g =
       elim (is_formula (content_at book p)) as (λ b. is_formula (content_at book p) ≡ b → is_grounded book k p ≡ true) [
         | true ↦ λ is.
             let entry = held_entry (find place_cmp p book.cells) is in
-            same_where_counted place_cmp same_places is_formula (is_grounded book k) (is_grounded book (suc k)) (grounded_once_more k) book.cells p entry.0 le entry.1 entry.2 g
+            let all = same_counted (grounded_entry k) (grounded_entry (suc k)) (grounded_again k) book.cells full in
+            let here = found_passes place_cmp same_places (λ e. grounded_entry (suc k) e ≡ true → grounded_entry k e ≡ true) book.cells p entry.0 all entry.1 in
+            (both_true _ _ (here (and_from _ _ entry.2 g))).1
         | false ↦ λ is_not. grounded_constant k p is_not
       ] refl
 
-  counted : (k : ℕ) → ((j : ℕ) × (j ≤ k) × IsLast j) ⊎ (k ≤ grounded_count k)
-  counted zero = inr (omega arith)
-  counted (suc k) =
-      elim (counted k) [
-        | inl last ↦ inl (last.0, omega arith, last.2)
-        | inr few ↦ elim (nat_le (grounded_count (suc k)) (grounded_count k)) as (λ b. nat_le (grounded_count (suc k)) (grounded_count k) ≡ b → ((j : ℕ) × (j ≤ suc k) × IsLast j) ⊎ (suc k ≤ grounded_count (suc k))) [
-          | true ↦ λ no_more. inl (k, omega arith, last_by_count k (leb-true (grounded_count (suc k)) (grounded_count k) no_more))
-          | false ↦ λ more. inr (more_lt (grounded_count (suc k)) (grounded_count k) k more few)
-        ] refl
-      ]
-
   some_last : (j : ℕ) × (j ≤ formula_count book + 1) × IsLast j
-  unfolding grounded_count formula_count
-  some_last =
-      elim (counted (suc (formula_count book))) [
-        | inl last ↦ (last.0, omega arith, last.2)
-        | inr many ↦ absurd (omega (arith, many, count_le_all place_cmp same_places is_formula (is_grounded book (suc (formula_count book))) book.cells))
-      ]
+  some_last = let full = full_round book.cells grounded_entry (formula_count book) grounded_bound in (full.0, full.1, last_of_full full.0 full.2)
 
   -- what any round grounds is not circular
   pub grounded_ever : (k : ℕ) (p : Place) → is_grounded book k p ≡ true → is_circular book p ≡ false

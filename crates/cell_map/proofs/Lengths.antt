@@ -1,5 +1,5 @@
 -- How many entries a sorted list has with one more or one less.
-use Rattle.std.proofs.Common.{◌≡◌, ℕ, ◌+◌, ◌-◌, Bool, true, false, cond, nat_le, ◌<◌, ◌≤◌, List, [], ◌∷◌, length, Some, None, is_some, refl, sym, arith}
+use Rattle.std.proofs.Common.{◌≡◌, ℕ, ◌+◌, Bool, true, false, cond, nat_le, ◌<◌, ◌≤◌, List, [], ◌∷◌, length, Some, None, is_some, refl, sym, arith}
 use Rattle.std.specs.Map.{lookup, remove_entry}
 use Rattle.std.specs.BTreeMap.{insert_entry, is_at}
 use Rattle.std.specs.Cmp.{IsTotalOrder}

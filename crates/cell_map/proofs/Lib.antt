@@ -1,6 +1,10 @@
--- looking up
+-- looking a cell up
 pub mod Lookups
 -- how many cells a map has after a change
-pub mod Lengths
+mod Lengths
 -- a map stays a book
-pub mod Kept
+mod Kept
+-- ranges of a map's keys in a column
+mod Columns
+-- emptying an area cell by cell
+mod Emptying

@@ -1,1 +1,2 @@
 pub mod ResultMap
+pub mod Runs

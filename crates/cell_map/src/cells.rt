@@ -4,6 +4,7 @@ ghost use Rattle.std.specs.Option.{option_copied};
 ghost use Rattle.calc_model.specs.Books.{IsBook, content_at, formula_count, is_content, is_held, is_place, with_content};
 ghost use Rattle.calc_model.specs.Step.{is_edit, without_area};
 
+use crate::runs::remove_area;
 use calc_addr::{Area, Cell, NoMemory};
 use calc_model::{Content, Edit, MOST_CELLS};
 use std::alloc::Global;
@@ -93,7 +94,8 @@ impl CellMap {
         Ok(())
     }
 
-    /// Empties the cells of an area.
+    /// Empties the cells of an area. It takes the logarithm of the map for each column of the area and for
+    /// each cell that it empties.
     pub fn clear(&mut self, area: Area)
         ensures cells { self.new.cells ≡ without_area self.old.cells area }
         ensures names { self.new.names ≡ self.old.names }
@@ -137,12 +139,6 @@ fn put(cells: &mut BTreeMap<Cell, Content>, cell: Cell, content: Content) -> Res
         cells.remove(&cell);
     }
     Ok(())
-}
-
-fn remove_area(cells: &mut BTreeMap<Cell, Content>, area: Area)
-    ensures { cells.new.entries ≡ without_area cells.old.entries area }
-{
-    cells.retain(|cell, _| !area.covers(*cell));
 }
 
 /// The cell, which lies in one of the sheets as every cell does.

@@ -5,6 +5,7 @@
 
 mod cells;
 mod results;
+mod runs;
 mod show;
 
 pub use cells::CellMap;

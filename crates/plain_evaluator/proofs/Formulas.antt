@@ -1,10 +1,12 @@
 -- The formulas of a book with what they read: in the order of cells, and in any order.
-use Rattle.std.proofs.Common.{◌≡◌, ℕ, suc, ◌+◌, ◌<◌, ◌≤◌, ◌&&◌, get_or, drop, drop-cons, add-one, length, Bool, true, false, ◌||◌, cond, List, [], ◌∷◌, ◌++◌, append_assoc, map, Some, refl, sym, ap, subst, ◌∙◌}
-use Rattle.std.specs.List.{All, AllByRecursion, filter, list_all, list_any}
+use Rattle.std.proofs.Common.{◌≡◌, ℕ, suc, ◌+◌, ◌<◌, ◌≤◌, ◌&&◌, get_or, drop, drop-cons, add-one, length, Bool, true, false, ◌||◌, cond, List, [], ◌∷◌, ◌++◌, append_assoc, append-nil, take, arith, map, Some, refl, sym, ap, subst, ◌∙◌}
+use Rattle.std.specs.List.{AllByRecursion, filter, list_all, list_any}
 use Rattle.std.specs.Ordering.{eq_by_cmp}
 use Rattle.std.specs.FinMap.Entries.{find}
-use Rattle.std.proofs.lemmas.List.{drop_all}
+use Rattle.std.proofs.lemmas.List.{drop_all, take_all}
 use Rattle.std.proofs.lemmas.List.Elements.{All-from_recursion}
+use Rattle.std.proofs.lemmas.List.Sorted.{All-permutation, list_any-IsPermutation}
+use Rattle.std.specs.List.Sorted.{IsPermutation}
 use Rattle.calc_addr.specs.Places.{Place, Rectangle, place_cmp}
 use Rattle.calc_model.specs.declared.content.Content.{Content}
 use Rattle.calc_model.specs.declared.content.Content.TheVariants.{Formula}
@@ -113,3 +115,17 @@ module _ (book : Book) where
       ∙ append_assoc before (reading entry ∷ []) (readings rest)
       ∙ ap (λ items. before ++ items) (sym (ap readings next ∙ kept))
       ∙ so_far
+
+-- readers in another order
+pub readers_moved : (book : Book) (readers moved : List Reading) → IsPermutation readers moved → AreReaders book readers → AreReaders book moved
+readers_moved book readers moved same are =
+    record {
+      each = All-permutation (IsReader book) readers moved same are.each;
+      every = λ q formula. sym (list_any-IsPermutation (reads_here book q) readers moved same) ∙ are.every q formula;
+    }
+
+-- a list that a slice of all of it replaces
+pub written_back : {X : Type 0} (new items : List X) (len : ℕ) → new ≡ items → len ≡ length items → take len (new ++ drop (length new) items) ≡ items
+written_back new items len same is =
+    ap (λ rest. take len (new ++ rest)) (drop_all (length new) items (omega (arith, ap length same)))
+    ∙ ap (take len) (append-nil new) ∙ ap (take len) same ∙ take_all len items (omega arith)

@@ -1,11 +1,10 @@
 -- What one more result does to what is known of a plain map.
-use Rattle.std.proofs.Common.{◌≡◌, ℕ, ◌<◌, ◌≤◌, Bool, true, false, not, ◌||◌, cond, nat_lt, List, [], ◌∷◌, length, Option, Some, None, is_some, unwrap_or, Bor, refl, sym, ap, subst, ◌∙◌, arith}
+use Rattle.std.proofs.Common.{◌≡◌, ℕ, ◌<◌, ◌≤◌, Bool, true, false, not, ◌||◌, cond, nat_lt, List, [], ◌∷◌, length, Option, Some, None, is_some, unwrap_or, Bor, refl, sym, ap, subst, ◌∙◌}
 use Rattle.std.proofs.lemmas.Bool.{ltb-false, ltb-true}
 use Rattle.std.specs.List.{list_all}
 use Rattle.std.specs.Option.{option_copied}
 use Rattle.std.specs.Ordering.{eq_by_cmp, is_eq}
 use Rattle.std.proofs.lemmas.Cmp.{tied_itself}
-use Rattle.std.proofs.lemmas.List.Filters.{length-filter_both}
 use Rattle.std.specs.FinMap.Entries.{find}
 use Rattle.calc_addr.specs.Places.{Place, place_cmp}
 use Rattle.calc_addr.proofs.Walking.Order.{place_cmp_total}
@@ -13,13 +12,11 @@ use Rattle.calc_model.specs.declared.value.Value.{Value}
 use Rattle.calc_model.specs.declared.content.Content.{Content}
 use Rattle.calc_model.specs.declared.content.Content.TheVariants.{Empty, Formula}
 use Rattle.calc_model.specs.declared.tree.Tree.{Tree}
-use Rattle.calc_model.specs.Books.{Book, content_at, area_named, is_formula}
-use Rattle.calc_model.specs.Eval.{eval, top}
-use Rattle.calc_model.specs.Results.{Results, is_known, is_ready, is_tree_ready, shown_by, IsSound, IsFinished, Sets}
-use Rattle.calc_model.proofs.Counting.{count, same_where_counted}
+use Rattle.calc_model.specs.Books.{Book, content_at, is_formula}
+use Rattle.calc_model.specs.Results.{Results, is_known, is_ready, IsFinished, Sets}
+use Rattle.calc_model.proofs.Pigeonhole.{count, count_within, found_passes, same_counted}
 use Rattle.calc_model.proofs.Places.{same_places}
-use Rattle.calc_model.proofs.Readiness.{ready-Formula}
-use Rattle.calc_model.proofs.Knowing.{sound_with, unknown}
+use Rattle.calc_model.proofs.Knowing.{unknown}
 use Rattle.calc_model.proofs.Areas.{both_true}
 use Rattle.plain_evaluator.specs.Plain.{AreReaders, known_count, is_settled}
 use Rattle.plain_evaluator.proofs.Formulas.{Reading, readers_all}
@@ -30,7 +27,7 @@ or_true false = refl
 
 pub known_in_cells : (book : Book) (results : Results) → known_count book results ≤ length book.cells
 unfolding known_count
-known_in_cells book results = omega (arith, length-filter_both (λ entry. is_known book results entry.0) (λ entry. not (is_known book results entry.0)) (λ _. refl) book.cells)
+known_in_cells book results = count_within (λ (entry : Place × Content). is_known book results entry.0) book.cells
 
 held_entry : (o : Option Content) (tree : Tree) → unwrap_or o Empty ≡ Formula tree → (x : Content) × (o ≡ Some x)
 held_entry (Some x) tree h = (x, refl)
@@ -64,7 +61,7 @@ module _ (book : Book) (old new : Results) (cell : Place) (value : Value) (sets 
       ap (λ (o : Option Value). not (is_formula (content_at book cell)) || is_some o) here ∙ or_true _
 
   abbrev known_entries : (Place → Bool) → ℕ
-  known_entries f = count place_cmp same_places (λ _. true) f book.cells
+  known_entries f = count (λ (entry : Place × Content). f entry.0) book.cells
 
   -- the cell that has its first result counts once more
   more_entries : (tree : Tree) → content_at book cell ≡ Formula tree → old cell ≡ None → eq_by_cmp place_cmp cell cell ≡ true → nat_lt (known_entries before) (known_entries after) ≡ true
@@ -73,7 +70,8 @@ module _ (book : Book) (old new : Results) (cell : Place) (value : Value) (sets 
         | true ↦ λ less. refl
         | false ↦ λ no_more.
             let entry = found_entry book cell tree at in
-            let known : before cell ≡ true = same_where_counted place_cmp same_places (λ _. true) before after stays_known book.cells cell entry.0 (ltb-false (known_entries before) (known_entries after) no_more) entry.1 refl (known_here tied) in
+            let all = same_counted (λ (entry : Place × Content). before entry.0) (λ (entry : Place × Content). after entry.0) (λ e. stays_known e.0) book.cells (ltb-false (known_entries before) (known_entries after) no_more) in
+            let known : before cell ≡ true = found_passes place_cmp same_places (λ e. after e.0 ≡ true → before e.0 ≡ true) book.cells cell entry.0 all entry.1 (known_here tied) in
             let unknown : before cell ≡ false = ap (λ x. not (is_formula x) || is_some (old cell)) at ∙ ap (λ (o : Option Value). is_some o) none in
             cc
       ] refl

@@ -2,17 +2,20 @@ ghost use Rattle.std.specs.Prelude.{◌≡◌, IfOk};
 ghost use Rattle.plain_evaluator.specs.Plain.{AreReaders};
 
 use crate::areas::push_areas;
+use crate::order::reading_order;
 use calc_addr::{Area, Cell, NoMemory};
 use calc_model::Content;
 use cell_map::CellMap;
 use std::alloc::Global;
 use std::marker::Model;
 
-/// A formula's cell, with the areas that the formula reads. Contracts see it as the pair of both.
+/// A formula's cell, with the areas that the formula reads. Contracts see it as the pair of both; its rank
+/// only says when it is looked at.
 #[derive(Drop)]
 pub struct Reader {
     cell: Cell,
     areas: Vec<Area>,
+    rank: usize,
 }
 
 impl Model for Reader {
@@ -38,14 +41,30 @@ impl Reader {
     }
 }
 
-/// The formulas of a map of cells.
+/// The formulas of a map of cells, each after those that it reads where it is in no circle.
 pub fn readers(alloc: Global, cells: &CellMap) -> Result<Vec<Reader>, NoMemory>
     ensures { IfOk result (λ readers. AreReaders cells.now readers.items) }
 {
-    in_cell_order(alloc, cells)
+    let mut readers = in_cell_order(alloc, cells)?;
+    let order = reading_order(alloc, &readers)?;
+    set_ranks(&mut readers, &order);
+    readers.sort_unstable_by_key(|reader| reader.rank);
+    Ok(readers)
 }
 
-/// The same, in the order of cells.
+/// Gives each reader as its rank where its place stands in the order.
+fn set_ranks(readers: &mut [Reader], order: &[usize])
+    ensures { readers.new ≡ readers.old }
+{
+    for (rank, place) in order.iter().enumerate() {
+        if *place < readers.len() {
+            let reader = &mut readers[*place];
+            reader.rank = rank;
+        }
+    }
+}
+
+/// The formulas in the order of cells.
 fn in_cell_order(alloc: Global, cells: &CellMap) -> Result<Vec<Reader>, NoMemory>
     ensures { IfOk result (λ readers. AreReaders cells.now readers.items) }
 {
@@ -54,7 +73,11 @@ fn in_cell_order(alloc: Global, cells: &CellMap) -> Result<Vec<Reader>, NoMemory
         if let Content::Formula(formula) = content {
             let mut areas = Vec::new(alloc);
             push_areas(*cell, formula.tree(), &mut areas)?;
-            readers.push(Reader { cell: *cell, areas })?;
+            readers.push(Reader {
+                cell: *cell,
+                areas,
+                rank: 0,
+            })?;
         }
     }
     Ok(readers)

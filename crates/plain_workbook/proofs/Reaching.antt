@@ -5,7 +5,7 @@ use Rattle.std.proofs.lemmas.Bool.{and_from, and_parts}
 use Rattle.std.specs.List.{AllByRecursion, list_all}
 use Rattle.std.proofs.lemmas.List.Elements.{recursion_from_All}
 use Rattle.std.specs.Ordering.{eq_by_cmp}
-use Rattle.calc_addr.specs.Places.{Place, Rectangle, place_cmp}
+use Rattle.calc_addr.specs.Places.{Place, place_cmp}
 use Rattle.calc_model.specs.declared.content.Content.{Content}
 use Rattle.calc_model.specs.declared.content.Content.TheVariants.{Empty, Constant, Formula, Raw}
 use Rattle.calc_model.specs.Books.{Book, area_named, content_at, is_formula}
@@ -20,7 +20,7 @@ use Rattle.plain_evaluator.specs.Plain.{AreReaders, IsReader}
 use Rattle.plain_evaluator.proofs.Covered.{same_tests}
 use Rattle.plain_evaluator.proofs.Formulas.{Reading, reader_at}
 use Rattle.plain_workbook.specs.Touched.{contains_cell}
-use Rattle.plain_workbook.specs.Reach.{Adds, IsFound, KeepsFound, found_count, is_due, is_settled, marked}
+use Rattle.plain_workbook.specs.Reach.{Adds, IsFound, found_count, is_due, is_settled, marked}
 
 module _ (touched : CellSet) (old new : List Place) (reader : Reading) (adds : Adds touched old new reader) where
   stays_found : (q : Place) → contains_cell old q ≡ true → contains_cell new q ≡ true

@@ -1,13 +1,14 @@
 -- Sets of cells: one more cell, and cells of an area.
 use Rattle.std.proofs.Common.{◌≡◌, ◌&&◌, max, Bool, true, false, not, ◌||◌, cond, List, [], ◌∷◌, refl, sym, ap, ◌∙◌, subst, ◌⊎◌, inl, inr, arith}
 use Rattle.std.proofs.lemmas.Bool.{both_ways, not-true, or_parts}
+use Rattle.std.proofs.lemmas.Bool.Decides.{nat_tests}
 use Rattle.std.specs.List.{list_all, list_any}
 use Rattle.std.specs.Ordering.{eq_by_cmp, is_eq, match_ordering}
 use Rattle.std.specs.declared.cmp.Ordering.TheVariants.{Less, Equal, Greater}
 use Rattle.std.specs.BTreeMap.{is_at}
 use Rattle.std.specs.BTreeSet.{insert_key}
 use Rattle.std.specs.Set.{remove_key}
-use Rattle.calc_addr.specs.Places.{Place, Rectangle, covers, place_cmp, places}
+use Rattle.calc_addr.specs.Places.{Place, Rectangle, corner, covers, place_cmp, places}
 use Rattle.calc_model.proofs.Areas.{Inside, all_places, both_true, covered, inside, places_all}
 use Rattle.calc_model.proofs.Places.{same_places}
 use Rattle.calc_model.proofs.Reached.{either, or_first, or_second, or_true, same_cell, some_item}
@@ -84,6 +85,13 @@ any_covered cells area = same_tests _ _
     item.2 (covers area) (subst (λ q. covers area q ≡ true) (same_places place.0 item.0 item.1) place.2))
 
 pub ruleset more = (one_more_cell, one_more_area)
+
+-- an area of one column and one row has its corner alone
+pub one_cell : (area : Rectangle) → area.first_col ≡ area.last_col → area.first_row ≡ area.last_row → (q : Place) → covers area q ≡ eq_by_cmp place_cmp (corner area) q
+one_cell area col row q = same_tests _ _ (λ inside. grind (arith, nat_tests)) (λ same. subst (λ p. covers area p ≡ true) (same_places (corner area) q same) (corner_inside refl))
+  where
+    corner_inside : area ≡ area → covers area (corner area) ≡ true
+    corner_inside same = grind (arith, nat_tests)
 
 -- the cell at the later of two areas' first columns and the later of their first rows
 abbrev pub latest : Rectangle → Rectangle → Place

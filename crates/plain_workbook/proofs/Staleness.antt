@@ -7,7 +7,7 @@ use Rattle.std.specs.Cmp.Lexicographic.{slice_cmp}
 use Rattle.std.specs.Str.{str_to_ascii_uppercase}
 use Rattle.std.specs.Ordering.{eq_by_cmp}
 use Rattle.std.proofs.lemmas.Bool.{false_from_ne_true, and_from, and_parts}
-use Rattle.calc_addr.specs.Places.{Place, Rectangle, place_cmp}
+use Rattle.calc_addr.specs.Places.{Place, place_cmp}
 use Rattle.calc_model.specs.declared.content.Content.{Content}
 use Rattle.calc_model.specs.Books.{Book, area_named, content_at, is_formula, looked_up}
 use Rattle.calc_model.specs.Reads.{content_areas, reads}

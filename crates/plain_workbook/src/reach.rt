@@ -14,7 +14,10 @@ use std::alloc::Global;
 use std::collections::BTreeSet;
 
 /// The formulas that are touched or reach a touched cell by reading. They are found by sweeps over the
-/// formulas until a sweep adds nothing.
+/// formulas until a sweep adds nothing. Each formula comes after those that it reads, so two sweeps do
+/// where reading goes in no circle; a way of reading through k circles may take k sweeps more. A sweep
+/// asks each area that is read once, in time that grows with the touched areas of several cells, and with
+/// the lesser of the area's cells and the cells that are touched or found.
 pub(crate) fn reached(
     alloc: Global,
     cells: &CellMap,

@@ -1,5 +1,5 @@
 //! The cells that edits touched since the last recalculation.
-ghost use Rattle.std.specs.Prelude.{◌≡◌, ◌||◌, true, false, not, IfOk, OnOk, OnErr};
+ghost use Rattle.std.specs.Prelude.{◌≡◌, ◌||◌, true, false, not, IfOk, IfSome, OnOk, OnErr};
 ghost use Rattle.std.specs.BTreeMap.{is_at};
 ghost use Rattle.std.specs.BTreeSet.{insert_key};
 ghost use Rattle.std.specs.Set.{remove_key};
@@ -76,12 +76,18 @@ impl Touched {
         self.cells.remove(&cell);
     }
 
+    /// Adds the cells of the area: a single cell among these, and else the area.
     pub(crate) fn add_area(&mut self, area: Area) -> Result<(), NoMemory>
         ensures touched { OnOk result ((q : Place) →
             is_touched self.new q ≡ (is_touched self.old q || covers area q)) }
         ensures err { OnErr result (self.new ≡ self.old) }
     {
-        self.areas.push(area)?;
+        match only_cell(area) {
+            Some(cell) => {
+                self.add_cell(cell)?;
+            }
+            None => self.areas.push(area)?,
+        }
         Ok(())
     }
 
@@ -105,6 +111,17 @@ impl Touched {
             return true;
         }
         is_any_met(&self.areas, area)
+    }
+}
+
+/// The cell of an area that has one.
+fn only_cell(area: Area) -> Option<Cell>
+    ensures { IfSome result (λ cell. (q : Place) → covers area q ≡ eq_by_cmp place_cmp cell q) }
+{
+    if area.first_col == area.last_col && area.first_row == area.last_row {
+        Some(area.corner())
+    } else {
+        None
     }
 }
 

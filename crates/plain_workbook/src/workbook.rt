@@ -62,8 +62,8 @@ impl PlainWorkbook {
         &self.cells
     }
 
-    /// Makes an edit; so far all but `Set` and `Clear` are refused. It takes the logarithm of the cells for
-    /// each cell that it sets or clears.
+    /// Makes an edit; so far all but `Set` and `Clear` are refused. To set a cell takes the logarithm of the
+    /// cells, to clear an area that for each of its columns and each cell that it empties.
     pub fn edit(&mut self, alloc: Global, edit: &Edit) -> Result<(), EditFault>
         ensures done { OnOk result (step self.old.book edit.now ≡ Ok self.new.book) }
         ensures stale { OnOk result (Stales self.old edit.now self.new) }
@@ -132,7 +132,8 @@ impl PlainWorkbook {
         }
     }
 
-    /// How many formulas are stale.
+    /// How many formulas are stale. It takes two sweeps over the formulas, and more only where reading goes
+    /// in circles.
     pub fn stale_count(&self, alloc: Global) -> Result<usize, NoMemory>
         ensures { IfOk result (λ count. count ≡ count_in self.now.book (stale_of self.now)) }
     {

@@ -1,4 +1,4 @@
-use Rattle.std.proofs.Common.{◌≡◌, true, false, sym, ap, subst, ◌∙◌}
+use Rattle.std.proofs.Common.{◌≡◌, true, sym, ap, subst, ◌∙◌}
 use Rattle.calc_model.specs.Eval.{top}
 use Rattle.calc_model.specs.Results.{Sets, is_ready}
 use Rattle.calc_model.proofs.Knowing.{sound_with}

@@ -1,4 +1,4 @@
-use Rattle.std.proofs.Common.{arith, ap, subst, sym}
+use Rattle.std.proofs.Common.{arith, subst, sym}
 use Rattle.plain_evaluator.specs.Plain.{AreReaders}
 use Rattle.plain_workbook.specs.Touched.{is_touched}
 use Rattle.plain_workbook.proofs.Reaching.{all_found, found_within}

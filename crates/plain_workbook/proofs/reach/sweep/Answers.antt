@@ -1,9 +1,9 @@
-use Rattle.std.proofs.Common.{◌≡◌, true, false, sym, ap, subst, ◌∙◌, arith}
+use Rattle.std.proofs.Common.{◌≡◌, true, false, sym, subst, ◌∙◌, arith}
 use Rattle.std.specs.List.{list_all}
 use Rattle.plain_evaluator.specs.Plain.{IsReader}
 use Rattle.plain_evaluator.proofs.Formulas.{all_dropped, next_passes}
 use Rattle.plain_workbook.specs.Touched.{is_touched}
-use Rattle.plain_workbook.specs.Reach.{KeepsFound, found_count, is_settled}
+use Rattle.plain_workbook.specs.Reach.{KeepsFound, is_settled}
 use Rattle.plain_workbook.proofs.Reaching.{found_with, more_found}
 use Rattle.plain_workbook.proofs.reach.sweep.Goals as goal
 use Rattle.plain_workbook.proofs.reach.sweep.Goals.{then-branch, else-branch}

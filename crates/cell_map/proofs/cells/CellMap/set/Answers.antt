@@ -1,4 +1,4 @@
-use Rattle.std.proofs.Common.{◌≡◌, ◌≤◌, length, sym, subst}
+use Rattle.std.proofs.Common.{◌≤◌, length, sym, subst}
 use Rattle.calc_model.specs.declared.limits.TheConstants.{MOST_CELLS}
 use Rattle.calc_model.specs.Books.{Book, with_content}
 use Rattle.cell_map.proofs.Kept.{set_keeps}
