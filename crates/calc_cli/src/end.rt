@@ -7,7 +7,10 @@ ghost use Rattle.calc_cli.specs.Runs.{CountsFaults, Ends, LeavesInputs, TakesWho
 use crate::inputs::Inputs;
 use crate::limits::MOST_SCRIPT_BYTES;
 use crate::output::write_output;
-use crate::status::{BAD_WORDS, BOOK_REFUSED, DESK_FAILED, DONE, LINE_REFUSED, NO_MEMORY, SCRIPT_TOO_LONG, SINK_FAILED};
+use crate::status::{
+    BAD_WORDS, BOOK_REFUSED, DESK_FAILED, DONE, LINE_REFUSED, NO_MEMORY, SCRIPT_TOO_LONG,
+    SINK_FAILED,
+};
 use crate::written::write_all;
 use calc_io::{DeviceFault, Sink};
 use cell_map::CellMap;

@@ -56,8 +56,17 @@ fn references_go_with_rows_and_formulas(rt: HostRuntime) -> Result<(), Fail> {
 
 #[test]
 fn runs_are_written_with_their_sheet(rt: HostRuntime) -> Result<(), Fail> {
-    for (sheet, first, last, text) in [(0, 1, 6, "B1:B6"), (1, 1, 6, "Sheet2.B1:B6"), (0, 4, 4, "B4:B4")] {
-        let run = Run { sheet, col: 2, first, last };
+    for (sheet, first, last, text) in [
+        (0, 1, 6, "B1:B6"),
+        (1, 1, 6, "Sheet2.B1:B6"),
+        (0, 4, 4, "B4:B4"),
+    ] {
+        let run = Run {
+            sheet,
+            col: 2,
+            first,
+            last,
+        };
         assert_eq!(rt; write_run(run).bytes(), text.as_bytes(), "{text}");
     }
     Ok(())
