@@ -60,9 +60,11 @@ fn read_record(alloc: Global, book: &mut CellMap, row: u32, text: &[u8]) -> Resu
     requires bytes { list_all is_plain_byte text.now ≡ true }
     requires form { is_plain_record text.now ≡ true }
     requires room { length book.old.cells + length (fields_in text.now) ≤ MOST_CELLS }
-    ensures cells { OnOk result (book.new.cells ≡ with_fields field_of row 1 book.old.cells (fields_in text.now)) }
+    ensures cells { OnOk result (book.new.cells
+        ≡ with_fields field_of row 1 book.old.cells (fields_in text.now)) }
     ensures names { OnOk result (book.new.names ≡ book.old.names) }
-    ensures few { OnOk result (length book.new.cells ≤ length book.old.cells + length (fields_in text.now)) }
+    ensures few { OnOk result (length book.new.cells
+        ≤ length book.old.cells + length (fields_in text.now)) }
 {
     let mut col = 1;
     for field in fields_of(text) {

@@ -32,7 +32,8 @@ pub(crate) fn read_all<D: Desk>(
         ≡ Some (drop (limit + 1) all)) }
     ensures within { (all : List ℕ)
         → left_of input (D.book_left desk.old) (D.script_left desk.old) ≡ Some all
-        → TakesAtMost (limit + 1) all (left_of input (D.book_left desk.new) (D.script_left desk.new)) }
+        → TakesAtMost (limit + 1) all
+        (left_of input (D.book_left desk.new) (D.script_left desk.new)) }
     ensures other { Keeps (left_of (other input) (D.book_left desk.old) (D.script_left desk.old))
         (left_of (other input) (D.book_left desk.new) (D.script_left desk.new)) }
 

@@ -124,7 +124,8 @@ pub(crate) fn read_inputs<D: Desk>(
     ensures somehow { IfOk result (λ inputs. IsEnding (ending_of inputs)) }
     ensures left { (book script : List ℕ)
         → Tells (D.books desk.old) (D.script_left desk.old) name.now book script
-        → IfOk result (λ inputs. IsLeft inputs script (D.book_left desk.new) (D.script_left desk.new)) }
+        → IfOk result (λ inputs.
+        IsLeft inputs script (D.book_left desk.new) (D.script_left desk.new)) }
     ensures book_within { (book : List ℕ) → told_book (D.books desk.old) name.now ≡ Some book
         → Keeps (D.book_left desk.old) (D.book_left desk.new)
         ⊎ TakesAtMost (MOST_BYTES + 1) book (D.book_left desk.new) }

@@ -103,7 +103,8 @@ fn reply_to(
 
 /// Writes what a line writes, and answers whether the line is refused.
 fn write_reply<K: Sink>(sink: &mut K, reply: &Reply) -> Result<bool, DeviceFault>
-    ensures ok { OnOk result (Appends (K.written sink.old) (K.written sink.new) reply.now.text.items) }
+    ensures ok { OnOk result (Appends (K.written sink.old) (K.written sink.new)
+        reply.now.text.items) }
     ensures refused { IfOk result (λ refused. refused ≡ reply.now.refused) }
     ensures err { OnErr result (GrowsWithin (K.written sink.old) (K.written sink.new)
         reply.now.text.items) }

@@ -16,7 +16,8 @@ pub(crate) fn write_all<K: Sink>(sink: &mut K, bytes: &[u8]) -> Result<(), Faile
 
     ensures room { OnOk result (RoomFalls (K.room sink.old) (K.room sink.new) (length bytes.now)) }
     ensures fits { HasRoom (K.room sink.old) (length bytes.now) → IsOk result }
-    ensures no_fault { HasRoom (K.room sink.old) (length bytes.now) → K.faults sink.new ≡ K.faults sink.old }
+    ensures no_fault { HasRoom (K.room sink.old) (length bytes.now)
+        → K.faults sink.new ≡ K.faults sink.old }
 {
     let mut written = 0;
     while written < bytes.len() {

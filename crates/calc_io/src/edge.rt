@@ -45,7 +45,12 @@ impl<'a, R: Files, S: Read + Drop> Model for PipeDesk<'a, R, S> {
 impl<'a, R: Files, S: Read + Drop> PipeDesk<'a, R, S> {
     /// A desk with no book open.
     pub fn new(files: &'a R, script: S) -> PipeDesk<'a, R, S>
-        ensures { result ≡ record { is_open = false; file = None; script = S.remaining script; faults = 0 } }
+        ensures { result ≡ record {
+          is_open = false;
+          file = None;
+          script = S.remaining script;
+          faults = 0;
+        } }
     {
         PipeDesk {
             files,
@@ -89,7 +94,8 @@ impl<R: Files, S: Read + Drop> Desk for PipeDesk<'_, R, S> {
         ensures bound { ReadsAtMost result buf.new }
         ensures bytes { ReadConsumes self.old.file self.new.file result buf.new }
         ensures closed { self.old.is_open ≡ false → result ≡ Ok 0 }
-        ensures same { self.new ≡ record self.old { file = self.new.file; faults = self.new.faults } }
+        ensures same { self.new
+            ≡ record self.old { file = self.new.file; faults = self.new.faults } }
         ensures later { self.old.faults ≤ self.new.faults }
         ensures counted { CountsFailure self.old.faults self.new.faults result }
     {
@@ -102,7 +108,8 @@ impl<R: Files, S: Read + Drop> Desk for PipeDesk<'_, R, S> {
     fn read_script(&mut self, buf: &mut [u8]) -> Result<usize, Failed>
         ensures bound { ReadsAtMost result buf.new }
         ensures bytes { ReadConsumes self.old.script self.new.script result buf.new }
-        ensures same { self.new ≡ record self.old { script = self.new.script; faults = self.new.faults } }
+        ensures same { self.new
+            ≡ record self.old { script = self.new.script; faults = self.new.faults } }
         ensures later { self.old.faults ≤ self.new.faults }
         ensures counted { CountsFailure self.old.faults self.new.faults result }
     {

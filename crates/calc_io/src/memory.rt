@@ -104,7 +104,10 @@ impl Desk for MemoryDesk {
         ensures fails { IsErr result ↔ FailsNext self.old.plan }
         ensures read { IfOk result (IsRead self.old.book_left self.old.plan.piece buf.new) }
         ensures left { IfOk result (λ count.
-            self.new ≡ record self.old { plan = after_call self.old.plan; book_left = drop count self.old.book_left }) }
+            self.new ≡ record self.old {
+              plan = after_call self.old.plan;
+              book_left = drop count self.old.book_left;
+            }) }
         ensures failed { OnErr result (self.new ≡ desk_after_failure self.old) }
         ensures later { self.old.faults ≤ self.new.faults }
         ensures moves { 0 < self.old.plan.piece }
@@ -119,7 +122,10 @@ impl Desk for MemoryDesk {
         ensures fails { IsErr result ↔ FailsNext self.old.plan }
         ensures read { IfOk result (IsRead self.old.script_left self.old.plan.piece buf.new) }
         ensures left { IfOk result (λ count.
-            self.new ≡ record self.old { plan = after_call self.old.plan; script_left = drop count self.old.script_left }) }
+            self.new ≡ record self.old {
+              plan = after_call self.old.plan;
+              script_left = drop count self.old.script_left;
+            }) }
         ensures failed { OnErr result (self.new ≡ desk_after_failure self.old) }
         ensures later { self.old.faults ≤ self.new.faults }
         ensures moves { 0 < self.old.plan.piece }

@@ -32,9 +32,11 @@ impl Page {
     /// where no room is left for the first of them.
     pub(crate) fn write(&mut self, piece: &[u8], most: usize) -> Option<usize>
         requires { 0 < most }
-        ensures taken { IfSome result (λ taken. taken ≡ min (min (length piece.now) self.old.room) most) }
+        ensures taken { IfSome result (λ taken.
+            taken ≡ min (min (length piece.now) self.old.room) most) }
         ensures some { IfSome result (λ taken. 0 < length piece.now → 0 < taken) }
-        ensures bytes { IfSome result (λ taken. self.new.bytes.items ≡ self.old.bytes.items ++ take taken piece.now) }
+        ensures bytes { IfSome result (λ taken.
+            self.new.bytes.items ≡ self.old.bytes.items ++ take taken piece.now) }
         ensures room { IfSome result (λ taken. self.new.room + taken ≡ self.old.room) }
 
         ensures full { IfNone result ((self.old.room ≡ 0) × (0 < length piece.now)) }

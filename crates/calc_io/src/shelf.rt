@@ -35,7 +35,8 @@ impl Shelf {
     /// Opens the first book of that name, and says whether there is one.
     pub(crate) fn open(&mut self, name: &Text) -> bool
         ensures found { IsTrue result ↔ IsSome (book_of (shelf_books self.old) name.now) }
-        ensures opened { OnTrue result (book_of (shelf_books self.old) name.now ≡ Some (book_rest self.new)) }
+        ensures opened { OnTrue result
+            (book_of (shelf_books self.old) name.now ≡ Some (book_rest self.new)) }
         ensures unknown { OnFalse result (book_rest self.new ≡ book_rest self.old) }
         ensures same_books { shelf_books self.new ≡ shelf_books self.old }
         ensures same_script { script_rest self.new ≡ script_rest self.old }

@@ -120,7 +120,8 @@ impl Model for SteadySink {
 impl SteadySink {
     /// A sink with room for so many bytes, whose memory it takes at once.
     pub fn new(alloc: Global, room: usize) -> Result<SteadySink, NoMemory>
-        ensures holds { IfOk result (λ sink. sink ≡ record { written = []; room = room; faults = 0 }) }
+        ensures holds { IfOk result (λ sink.
+            sink ≡ record { written = []; room = room; faults = 0 }) }
         ensures empty { IfOk result (λ sink. ⟦<SteadySink as Sink>⟧.written sink ≡ Some []) }
         ensures room { IfOk result (λ sink. ⟦<SteadySink as Sink>⟧.room sink ≡ Some room) }
     {
@@ -153,7 +154,8 @@ impl Sink for SteadySink {
           written = self.old.written ++ take taken piece.now;
           room = self.old.room - taken;
         }) }
-        ensures failed { OnErr result (self.new ≡ record self.old { faults = one_more self.old.faults }) }
+        ensures failed { OnErr result
+            (self.new ≡ record self.old { faults = one_more self.old.faults }) }
         ensures later { self.old.faults ≤ self.new.faults }
     {
         match self.page.write(piece, usize::MAX) {

@@ -1,3 +1,7 @@
+-- Trees: TreeFolds, TreeInduction, GrammarLevels. Areas and places: Areas, Places.
+-- What cells show: EvalSame (a formula depends on what it reads), Rounds, Shown, Pigeonhole (rounds that come to an
+-- end), Knowing, Readiness (results found in any order), Building (which formulas have a value so far).
+-- Edits: BooksKept (a book stays one), Reached (which cells reach which). Worked examples: the files that end so.
 pub mod TreeFolds
 pub mod TreeInduction
 pub mod Areas

@@ -36,7 +36,8 @@ fn read_text(alloc: Global, text: &[u8]) -> Result<Line, NoMemory>
 #[tactic(auto, unfolding(crate::specs::Commands::command_of))]
 fn read_command(alloc: Global, text: &[u8]) -> Result<Line, NoMemory>
     requires { IsUtf8 text.now }
-    ensures { ReadsOver result (λ field. command_of field (up_to_space text.now) (behind_space text.now)) }
+    ensures { ReadsOver result (λ field.
+        command_of field (up_to_space text.now) (behind_space text.now)) }
 {
     let (name, rest) = cut_word(text);
     if name == b"set".as_slice() {
