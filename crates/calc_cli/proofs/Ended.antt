@@ -90,22 +90,10 @@ too_long_left script book_left script_left left = record {
   cut_off = λ _. left;
 }
 
--- a run that stopped before its inputs were taken says nothing of what is left
-pub stopped_early : (status : ℕ) (script : List ℕ) (book_left script_left : Option (List ℕ)) → LINE_REFUSED < status → status < BOOK_REFUSED → LeavesInputs status script book_left script_left
-stopped_early status script book_left script_left more less = record {
-  book_ends = λ few. absurd (omega arith);
-  script_ends = λ few. absurd (omega arith);
-  untaken = λ six. absurd (omega arith);
-  cut_off = λ seven. absurd (omega arith);
-}
-
 pub told_of : (books : Option Books) (script_left : Option (List ℕ)) (words : List (List ℕ)) (book script name : List ℕ) → Serves books script_left words book script → book_name words ≡ Some name → Tells books script_left name book script
 told_of books script_left words book script name serves named =
     let same : serves.name ≡ name = cc (serves.is_named, named) in
     subst (λ n. Tells books script_left n book script) same serves.told
-
-pub not_served : (books : Option Books) (script_left : Option (List ℕ)) (words : List (List ℕ)) (book script : List ℕ) → Serves books script_left words book script → book_name words ≡ None → ⊥
-not_served books script_left words book script serves none = cc (serves.is_named, none)
 
 -- the script's lines were answered, and all that they write is written
 pub answered_ends : (status : ℕ) (refused : Bool) (session : Session) (lines : List (List ℕ)) (old new : Option (List ℕ)) → status ≡ cond refused LINE_REFUSED DONE → status < DESK_FAILED → refused ≡ has_refusal field_of session 1 lines → Appends old new (output field_of session 1 lines) → Ends status old new (answered field_of session lines)

@@ -11,15 +11,9 @@ use Rattle.calc_cli.specs.Runs.{GrowsWithin}
 abbrev pub IsWrittenTo : Option (List ℕ) → Option (List ℕ) → List ℕ → List ℕ → Type 0
 IsWrittenTo old new whole rest = (front : List ℕ) × (whole ≡ front ++ rest) × Appends old new front
 
-pub nothing_written : (old : Option (List ℕ)) (whole : List ℕ) → IsWrittenTo old old whole whole
-nothing_written old whole = ([], refl, Appends-nil old)
-
 pub part_written : (old then new : Option (List ℕ)) (whole part rest : List ℕ) → IsWrittenTo old then whole (part ++ rest) → Appends then new part → IsWrittenTo old new whole rest
 part_written old then new whole part rest (front, whole_is, before) now =
     (front ++ part, whole_is ∙ sym (append_assoc front part rest), Appends-trans old then new front part before now)
-
-pub all_written : (old new : Option (List ℕ)) (whole : List ℕ) → IsWrittenTo old new whole [] → Appends old new whole
-all_written old new whole (front, whole_is, before) = subst (Appends old new) (sym (whole_is ∙ append-nil front)) before
 
 pub stopped : (old new : Option (List ℕ)) (whole rest : List ℕ) → IsWrittenTo old new whole rest → GrowsWithin old new whole
 stopped old new whole rest (front, whole_is, before) = (front, rest, whole_is, before)
@@ -43,7 +37,3 @@ room_behind_part first then part rest has falls =
 pub refused_more : (so_far flag here behind rest all : Bool) → flag ≡ here → behind ≡ rest → (so_far || (here || rest)) ≡ all → ((so_far || flag) || behind) ≡ all
 refused_more true flag here behind rest all is same whole = whole
 refused_more false flag here behind rest all is same whole = ap (λ b. b || behind) is ∙ ap (λ b. here || b) same ∙ whole
-
--- nothing was written so far
-pub unwritten : (old : Option (List ℕ)) (whole : List ℕ) → GrowsWithin old old whole
-unwritten old whole = ([], whole, refl, Appends-nil old)

@@ -112,9 +112,6 @@ unfolding is_one_cell
 built-Add x y = built-Binary Add x y
 
 module _ (home : Place) (names : Names) (values : Values) where
-  pub eval_unbuilt : (tree : Tree) → is_built tree ≡ false → eval home names values tree ≡ Bad Syntax
-  eval_unbuilt tree h = ap (λ b. cond b (meaning home names values tree).scalar (Bad Syntax)) h
-
   -- the value of a sum of two references to one cell each
   pub eval_sum : (a b : Reference) → is_one a.span ≡ true → is_one b.span ≡ true → eval home names values (t.Binary Add (t.Ref a) (t.Ref b)) ≡ on_numbers (λ n m. checked (n +ℤ m)) (scalar_at (here a home) home values) (scalar_at (here b home) home values)
   eval_sum a b one other =

@@ -5,13 +5,6 @@ use Rattle.std.proofs.Math.Seq.{take-append_seam, take-length}
 use Rattle.std.proofs.lemmas.List.{length-take, take-append-le, take-take}
 use Rattle.formula_printer.specs.Growth.{BeginsWith}
 
--- what was left as it was
-pub begins_same : (old new : List ℕ) → new ≡ old → BeginsWith old new
-begins_same old new same = record { kept = ap (take (length old)) same ∙ take-length old }
-
-pub begins_gained : (old more new : List ℕ) → new ≡ old ++ more → BeginsWith old new
-begins_gained old more new gained = record { kept = ap (take (length old)) gained ∙ take-append_seam old more }
-
 -- what begins with more begins with its front
 pub begins_more : (old more mid new : List ℕ) → mid ≡ old ++ more → BeginsWith mid new → BeginsWith old new
 begins_more old more mid new gained after = record {

@@ -55,16 +55,6 @@ pub front_passes : (test : ℕ → Bool) (bytes : List ℕ) → list_all test (t
 front_passes test [] = refl
 front_passes test (byte ∷ bytes) = passes_more test byte bytes (test byte) refl (front_passes test bytes)
 
-stops_more : (test : ℕ → Bool) (byte : ℕ) (bytes : List ℕ) (b : Bool) → test byte ≡ b → begins test (behind test bytes) ≡ false → begins test (behind test (byte ∷ bytes)) ≡ false
-stops_more test byte bytes true e h =
-    let one : 1 + prefix_len test bytes ≡ suc (prefix_len test bytes) = omega arith in
-    ap (λ n. begins test (drop n (byte ∷ bytes))) (cond-true (test byte) _ _ e ∙ one) ∙ h
-stops_more test byte bytes false e h = ap (λ n. begins test (drop n (byte ∷ bytes))) (cond-false {A = ℕ} (test byte) _ _ e) ∙ e
-
-pub behind_stops : (test : ℕ → Bool) (bytes : List ℕ) → begins test (behind test bytes) ≡ false
-behind_stops test [] = refl
-behind_stops test (byte ∷ bytes) = stops_more test byte bytes (test byte) refl (behind_stops test bytes)
-
 pub front_and_behind : (test : ℕ → Bool) (bytes : List ℕ) → bytes ≡ take_while test bytes ++ behind test bytes
 front_and_behind test bytes = sym (take-append-drop (prefix_len test bytes) bytes)
 
