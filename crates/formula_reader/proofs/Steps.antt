@@ -8,7 +8,7 @@ use Rattle.std.proofs.lemmas.List.{take-append-drop}
 use Rattle.std.proofs.lemmas.List.Sums.{take_while-cons}
 use Rattle.std.proofs.lemmas.Option.{same_Some, some_pair_parts}
 use Rattle.calc_model.specs.Tokens.{are_blanks, is_blank}
-use Rattle.byte_cuts.specs.Fronts.{behind, begins}
+use Rattle.byte_cuts.specs.Fronts.{behind}
 use Rattle.formula_reader.specs.Unread.{◌>>=◌, Unread, next_is, past, skip, token_at, go_on, repeat, Fails, some_taken, taken_if}
 use Rattle.formula_reader.specs.declared.cursor.Stop.{Stop}
 
