@@ -1,0 +1,14 @@
+//! Kernels over spans of raw numbers: plain loops without a branch, which become vector code.
+//!
+//! Each call equals the fold of its definition, allocates nothing and is linear in its slices. A span has at most
+//! [`MOST_LANES`] items.
+#![tactic(auto)]
+
+mod arithmetic;
+mod folds;
+
+pub use arithmetic::{Crossed, add, sub};
+pub use folds::sum;
+
+/// The greatest length of a slice: the rows of a column.
+pub const MOST_LANES: usize = 1_048_576;
