@@ -1,2 +1,4 @@
 pub mod Folds
 pub mod Lanes
+pub mod Comparisons
+pub mod Choosing

@@ -5,10 +5,15 @@
 #![tactic(auto)]
 
 mod arithmetic;
+mod choices;
 mod folds;
 
 pub use arithmetic::{Crossed, add, sub};
-pub use folds::sum;
+pub use choices::{compare, select};
+pub use folds::{count_where, max, min, sum};
+
+/// The raw number of 1, which a comparison writes where it holds.
+pub const ONE: i64 = 1_000_000_000;
 
 /// The greatest length of a slice: the rows of a column.
 pub const MOST_LANES: usize = 1_048_576;
