@@ -17,9 +17,9 @@ least_is (x ∷ xs) (Some m) h =
     let best : ℤ = fold int_min x xs in
     let bounds = fold-int_min_bounds x xs best refl in
     let met : m ≤ℤ best = ⊎_elim
-        (λ e. subst (λ z. m ≤ℤ z) (sym e) (All-head (λ y. m ≤ℤ y) x xs h.1))
-        (λ there. All-contains (λ y. m ≤ℤ y) xs best (All-tail (λ y. m ≤ℤ y) x xs h.1) there)
-        (fold-int_min_reached x xs best refl) in
+    (λ e. subst (λ z. m ≤ℤ z) (sym e) (All-head (λ y. m ≤ℤ y) x xs h.1))
+    (λ there. All-contains (λ y. m ≤ℤ y) xs best (All-tail (λ y. m ≤ℤ y) x xs h.1) there)
+    (fold-int_min_reached x xs best refl) in
     let bound : best ≤ℤ m = All-contains (λ y. best ≤ℤ y) (x ∷ xs) m (All-cons (λ y. best ≤ℤ y) x xs bounds.0 bounds.1) h.0 in
     ap Some (same m best met bound)
 
@@ -31,8 +31,8 @@ greatest_is (x ∷ xs) (Some m) h =
     let best : ℤ = fold int_max x xs in
     let bounds = fold-int_max_bounds x xs best refl in
     let met : best ≤ℤ m = ⊎_elim
-        (λ e. subst (λ z. z ≤ℤ m) (sym e) (All-head (λ y. y ≤ℤ m) x xs h.1))
-        (λ there. All-contains (λ y. y ≤ℤ m) xs best (All-tail (λ y. y ≤ℤ m) x xs h.1) there)
-        (fold-int_max_reached x xs best refl) in
+    (λ e. subst (λ z. z ≤ℤ m) (sym e) (All-head (λ y. y ≤ℤ m) x xs h.1))
+    (λ there. All-contains (λ y. y ≤ℤ m) xs best (All-tail (λ y. y ≤ℤ m) x xs h.1) there)
+    (fold-int_max_reached x xs best refl) in
     let bound : m ≤ℤ best = All-contains (λ y. y ≤ℤ best) (x ∷ xs) m (All-cons (λ y. y ≤ℤ best) x xs bounds.0 bounds.1) h.0 in
     ap Some (same m best bound met)

@@ -8,4 +8,4 @@ pub lanes_written : {X Y : Type 0} (f : X → Y → ℤ) (a : List X) (b : List 
 lanes_written f a b x y out paired room each =
     let long = length-zip2 f a b paired in
     ext_get_or (pos 0) out (zip2 f a b) (omega arith)
-        (λ k inside. each k (omega arith) ∙ sym (get_or-zip2 f a b k x y (pos 0) (omega arith) (omega arith)))
+    (λ k inside. each k (omega arith) ∙ sym (get_or-zip2 f a b k x y (pos 0) (omega arith) (omega arith)))

@@ -1,11 +1,15 @@
 -- What one list of raw numbers gives: its sum, its least and greatest item, how many of its items stand in a
 -- relation to a number, and the sum of each of its windows. All results are exact.
-use Rattle.std.specs.Prelude.{ℕ, ℤ, pos, ◌+ℤ◌, ◌+◌, ◌-◌, List, [], ◌∷◌, Option, Some, None, map, length, take, drop}
+use Rattle.std.specs.Prelude.{ℕ, ℤ, pos, neg_ℤ, ◌+ℤ◌, ◌≤ℤ◌, ◌+◌, ◌-◌, ◌*◌, ◌^◌, List, [], ◌∷◌, Option, Some, None, map, length, take, drop}
 use Rattle.std.specs.List.{fold, range_with_len}
 use Rattle.std.specs.Int.{int_min, int_max}
 
 abbrev pub total : List ℤ → ℤ
 total = fold ◌+ℤ◌ (pos 0)
+
+-- so much at most is a sum of so many numbers of 64 bits
+abbrev pub FitsLanes : ℕ → ℤ → Type 0
+FitsLanes count sum = (neg_ℤ (pos (count * 2 ^ 63)) ≤ℤ sum) × (sum ≤ℤ pos (count * 2 ^ 63))
 
 -- the least item, where there is one
 abbrev pub least : List ℤ → Option ℤ

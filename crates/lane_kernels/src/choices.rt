@@ -4,8 +4,8 @@ ghost use Rattle.lane_kernels.specs.declared.TheConstants.{MOST_LANES};
 ghost use Rattle.lane_kernels.specs.Comparisons.{is_comparison, truths, selected, chosen};
 ghost use Rattle.lane_kernels.specs.Choosing.{WritesTruths, truth_if};
 
-use calc_model::Op;
 use crate::ONE;
+use calc_model::Op;
 
 /// Compares lane by lane, and writes the raw number of 1 where the comparison holds, else 0.
 pub fn compare(a: &[i64], b: &[i64], op: Op, out: &mut [i64])

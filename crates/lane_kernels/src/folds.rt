@@ -1,6 +1,6 @@
 ghost use Rattle.std.specs.Prelude.{◌≡◌, ◌≤◌, length, IsTrue};
 ghost use Rattle.lane_kernels.specs.declared.TheConstants.{MOST_LANES};
-ghost use Rattle.lane_kernels.specs.Folds.{total, least, greatest};
+ghost use Rattle.lane_kernels.specs.Folds.{total, FitsLanes, least, greatest};
 ghost use Rattle.lane_kernels.specs.Comparisons.{is_comparison, count_of};
 
 use calc_model::Op;
@@ -12,7 +12,8 @@ const LOW_HALF: i64 = 0xffff_ffff;
 /// The exact sum.
 pub fn sum(items: &[i64]) -> i128
     requires short { length items.now ≤ MOST_LANES }
-    ensures { result ≡ total items.now }
+    ensures exact { result ≡ total items.now }
+    ensures range { FitsLanes (length items.now) result }
 {
     // Two sums of 64 bits hold the halves of so few items, and vector code adds 64 bits.
     let mut high: i64 = 0;

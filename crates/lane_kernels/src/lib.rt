@@ -7,10 +7,12 @@
 mod arithmetic;
 mod choices;
 mod folds;
+mod windows;
 
 pub use arithmetic::{Crossed, add, sub};
 pub use choices::{compare, select};
 pub use folds::{count_where, max, min, sum};
+pub use windows::window_sums;
 
 /// The raw number of 1, which a comparison writes where it holds.
 pub const ONE: i64 = 1_000_000_000;

@@ -15,29 +15,29 @@ not_less x y = grind (arith, ints)
 pub returns-in-Eq : goal.returns-in-Eq
 returns-in-Eq c =
     rw c.in-Eq.is (told Eq c.args.a.now c.args.b.now c.tell_equal.new.out c.requires.paired (omega arith)
-        (λ k inside. c.tell_equal.ensures k (omega arith)))
+    (λ k inside. c.tell_equal.ensures k (omega arith)))
 
 pub returns-in-Ne : goal.returns-in-Ne
 returns-in-Ne c =
     rw c.in-Ne.is (told Ne c.args.a.now c.args.b.now c.tell_equal-in-Ne.new.out c.requires.paired (omega arith)
-        (λ k inside. c.tell_equal-in-Ne.ensures k (omega arith)))
+    (λ k inside. c.tell_equal-in-Ne.ensures k (omega arith)))
 
 pub returns-in-Lt : goal.returns-in-Lt
 returns-in-Lt c =
     rw c.in-Lt.is (told Lt c.args.a.now c.args.b.now c.tell_less.new.out c.requires.paired (omega arith)
-        (λ k inside. c.tell_less.ensures k (omega arith)))
+    (λ k inside. c.tell_less.ensures k (omega arith)))
 
 pub returns-in-Ge : goal.returns-in-Ge
 returns-in-Ge c =
     rw c.in-Ge.is (told Ge c.args.a.now c.args.b.now c.tell_less-in-Ge.new.out c.requires.paired (omega arith)
-        (λ k inside. c.tell_less-in-Ge.ensures k (omega arith) ∙ ap truth (not_less (get_or c.args.b.now k (pos 0)) (get_or c.args.a.now k (pos 0)))))
+    (λ k inside. c.tell_less-in-Ge.ensures k (omega arith) ∙ ap truth (not_less (get_or c.args.b.now k (pos 0)) (get_or c.args.a.now k (pos 0)))))
 
 pub returns-in-Gt : goal.returns-in-Gt
 returns-in-Gt c =
     rw c.in-Gt.is (told Gt c.args.a.now c.args.b.now c.tell_less-in-Gt.new.out c.requires.paired (omega arith)
-        (λ k inside. c.tell_less-in-Gt.ensures k (omega arith)))
+    (λ k inside. c.tell_less-in-Gt.ensures k (omega arith)))
 
 pub returns-in-Le : goal.returns-in-Le
 returns-in-Le c =
     rw c.in-Le.is (told Le c.args.a.now c.args.b.now c.tell_less-in-Le.new.out c.requires.paired (omega arith)
-        (λ k inside. c.tell_less-in-Le.ensures k (omega arith) ∙ ap truth (not_less (get_or c.args.a.now k (pos 0)) (get_or c.args.b.now k (pos 0)))))
+    (λ k inside. c.tell_less-in-Le.ensures k (omega arith) ∙ ap truth (not_less (get_or c.args.a.now k (pos 0)) (get_or c.args.b.now k (pos 0)))))
