@@ -2,3 +2,4 @@ pub mod Folds
 pub mod Lanes
 pub mod Comparisons
 pub mod Choosing
+pub mod Counting

@@ -7,11 +7,15 @@
 mod arithmetic;
 mod choices;
 mod folds;
+mod kernels;
+mod lanes;
 mod windows;
 
 pub use arithmetic::{Crossed, add, sub};
 pub use choices::{compare, select};
 pub use folds::{count_where, max, min, sum};
+pub use kernels::Kernels;
+pub use lanes::Lanes;
 pub use windows::window_sums;
 
 /// The raw number of 1, which a comparison writes where it holds.
