@@ -1,6 +1,6 @@
 ghost use Rattle.std.specs.Prelude.{◌≡◌, ◌≤◌, ◌+◌, ℕ, length, take, OnOk, IfErr, IsTrue};
 ghost use Rattle.lane_kernels.specs.declared.TheConstants.{MOST_LANES};
-ghost use Rattle.lane_kernels.specs.Folds.{total, least, greatest, window_totals};
+ghost use Rattle.lane_kernels.specs.Folds.{total, FitsLanes, least, greatest, window_totals};
 ghost use Rattle.lane_kernels.specs.Comparisons.{is_comparison, count_of, truths, selected};
 ghost use Rattle.lane_kernels.specs.Lanes.{sums, differences, first_crossing, named_lane};
 ghost use Rattle.lane_kernels.specs.Counting.{raised};
@@ -15,6 +15,7 @@ pub trait Kernels {
     fn sum(&mut self, span: &[i64]) -> i128
         requires short { length span.now ≤ MOST_LANES }
         ensures exact { result ≡ total span.now }
+        ensures range { FitsLanes (length span.now) result }
         ensures counted { items self.new ≡ raised (items self.old) (length span.now) };
 
     fn min(&mut self, span: &[i64]) -> Option<i64>

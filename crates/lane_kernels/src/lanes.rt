@@ -2,10 +2,8 @@ ghost use Rattle.std.specs.Prelude.{◌≡◌, ℕ, ◌<◌, ◌^◌, length};
 ghost use Rattle.lane_kernels.specs.Counting.{raised};
 
 use crate::arithmetic::{self, Crossed};
-use crate::choices;
-use crate::folds;
 use crate::kernels::Kernels;
-use crate::windows;
+use crate::{choices, folds, windows};
 use calc_model::Op;
 use std::marker::Model;
 

@@ -1,4 +1,4 @@
-use Rattle.std.proofs.Common.{◌≡◌, ℕ, pos, ◌<◌, get_or, int_lt}
+use Rattle.std.proofs.Common.{◌≡◌, ℕ, pos, ◌<◌, get_or}
 use Rattle.std.specs.Ordering.{int_eq}
 use Rattle.lane_kernels.specs.Choosing.{truth_if}
 use Rattle.lane_kernels.proofs.choices.tell_equal.Given as goal

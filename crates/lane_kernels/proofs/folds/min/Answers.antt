@@ -1,5 +1,4 @@
-use Rattle.std.proofs.Common.{◌≡◌, ◌≤ℤ◌, length, MatchOption, rules}
-use Rattle.std.specs.List.{All, Contains}
+use Rattle.std.proofs.Common.{rules}
 use Rattle.lane_kernels.proofs.Extremes.{least_is}
 use Rattle.lane_kernels.proofs.folds.min.Goals as goal
 

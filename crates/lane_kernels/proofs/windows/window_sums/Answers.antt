@@ -1,4 +1,4 @@
-use Rattle.std.proofs.Common.{◌≡◌, ◌<◌, ◌+◌, ◌-◌, ℕ, ℤ, pos, get_or, length, arith, rules, FitsSigned, w64, set, ap, below_more, get_or-set_other, get_or-set_same, ◌≢◌}
+use Rattle.std.proofs.Common.{◌≡◌, ◌<◌, ◌+◌, ◌-◌, pos, get_or, length, arith, rules, FitsSigned, w64, set, ap, below_more, get_or-set_other, get_or-set_same, ◌≢◌}
 use Rattle.std.proofs.lemmas.List.{length-take-le}
 use Rattle.std.proofs.lemmas.Int.{ints, to_z-of_z}
 use Rattle.std.proofs.lemmas.List.FromFn.{fill_by_all}

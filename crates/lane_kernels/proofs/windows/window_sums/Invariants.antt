@@ -1,5 +1,5 @@
 -- The running sum is that of the next window but for its last item, and the sums of the windows passed are written.
-use Rattle.std.proofs.Common.{◌≡◌, ℕ, pos, neg_ℤ, ◌+◌, ◌-◌, ◌*◌, ◌^◌, ◌<◌, ◌≤ℤ◌, get_or}
+use Rattle.std.proofs.Common.{◌≡◌, ℕ, pos, ◌+◌, ◌-◌, ◌*◌, ◌<◌, get_or}
 use Rattle.lane_kernels.specs.Folds.{total, window, FitsLanes}
 use Rattle.lane_kernels.proofs.windows.window_sums.Given as goal
 
