@@ -2,9 +2,13 @@
 use Rattle.std.specs.Prelude.{◌≡◌, ℕ, ℤ, pos, ◌<◌, Bool, not, if◌then◌else◌, List, length, slice_index_or}
 use Rattle.lane_kernels.specs.Comparisons.{truth}
 
+-- the item of a lane
+abbrev pub lane : List ℤ → ℕ → ℤ
+lane items k = slice_index_or items k (pos 0)
+
 abbrev pub truth_if : Bool → Bool → ℤ
 truth_if wanted answer = truth (if wanted then answer else not answer)
 
 abbrev pub WritesTruths : (ℤ → ℤ → Bool) → Bool → List ℤ → List ℤ → List ℤ → Type 0
 WritesTruths test wanted a b out = (k : ℕ) → k < length a →
-    slice_index_or out k (pos 0) ≡ truth_if wanted (test (slice_index_or a k (pos 0)) (slice_index_or b k (pos 0)))
+    lane out k ≡ truth_if wanted (test (lane a k) (lane b k))

@@ -1,5 +1,5 @@
--- What one list of raw numbers gives: its sum, its least and greatest item, how many of its items stand in a
--- relation to a number, and the sum of each of its windows. All results are exact.
+-- What one list of raw numbers gives: its sum, its least and greatest item, and the sum of each of its
+-- windows. All results are exact.
 use Rattle.std.specs.Prelude.{ℕ, ℤ, pos, neg_ℤ, ◌+ℤ◌, ◌≤ℤ◌, ◌+◌, ◌-◌, ◌*◌, ◌^◌, List, [], ◌∷◌, Option, Some, None, map, length, take, drop}
 use Rattle.std.specs.List.{fold, range_with_len}
 use Rattle.std.specs.Int.{int_min, int_max}
@@ -27,4 +27,5 @@ window items width place = take width (drop place items)
 
 -- the sum of each window of a width that lies whole in the items, by the place where it begins
 abbrev pub window_totals : List ℤ → ℕ → List ℤ
-window_totals items width = map (λ place. total (window items width place)) (range_with_len 0 (length items + 1 - width))
+window_totals items width =
+    map (λ place. total (window items width place)) (range_with_len 0 (length items + 1 - width))

@@ -1,5 +1,5 @@
 -- What two lists of one length give lane by lane, and the first lane whose exact result leaves 64 bits.
-use Rattle.std.specs.Prelude.{ℕ, ℤ, pos, neg_ℤ, ◌+ℤ◌, ◌-ℤ◌, ◌^◌, ◌&&◌, Bool, not, List, Option, Some, None, Result, Ok, Err, int_le, int_lt, position}
+use Rattle.std.specs.Prelude.{◌≡◌, take, ℕ, ℤ, pos, neg_ℤ, ◌+ℤ◌, ◌-ℤ◌, ◌^◌, ◌&&◌, Bool, not, List, Option, Some, None, Result, Ok, Err, int_le, int_lt, position}
 use Rattle.lane_kernels.specs.declared.arithmetic.Crossed.{Crossed}
 use lib.Lanes.{zip2}
 
@@ -21,3 +21,7 @@ first_crossing exact = position (λ number. not (is_i64 number)) exact
 abbrev pub named_lane : Result Unit Crossed → Option ℕ
 named_lane (Ok done) = None
 named_lane (Err crossed) = Some crossed.lane
+
+-- the lists have the same items before the lane
+abbrev pub SameBelow : ℕ → List ℤ → List ℤ → Type 0
+SameBelow lane xs ys = take lane xs ≡ take lane ys

@@ -1,6 +1,6 @@
-ghost use Rattle.std.specs.Prelude.{◌≡◌, ◌≤◌, length, take, OnOk, IfErr};
+ghost use Rattle.std.specs.Prelude.{◌≡◌, ◌≤◌, length, OnOk, IfErr};
 ghost use Rattle.lane_kernels.specs.declared.TheConstants.{MOST_LANES};
-ghost use Rattle.lane_kernels.specs.Lanes.{sums, differences, first_crossing, named_lane};
+ghost use Rattle.lane_kernels.specs.Lanes.{sums, differences, first_crossing, named_lane, SameBelow};
 
 /// A lane whose exact result is no number of 64 bits.
 #[derive(Clone, Copy, Debug, PartialEq, Eq)]
@@ -15,7 +15,7 @@ pub fn add(a: &[i64], b: &[i64], out: &mut [i64]) -> Result<(), Crossed>
     requires room { length out.old ≡ length a.now }
     ensures crossed { named_lane result ≡ first_crossing (sums a.now b.now) }
     ensures ok { OnOk result (out.new ≡ sums a.now b.now) }
-    ensures before { IfErr result (λ e. take e.lane out.new ≡ take e.lane (sums a.now b.now)) }
+    ensures before { IfErr result (λ e. SameBelow e.lane out.new (sums a.now b.now)) }
 {
     let mut crossed = false;
     for i in 0..a.len() {
@@ -50,7 +50,7 @@ pub fn sub(a: &[i64], b: &[i64], out: &mut [i64]) -> Result<(), Crossed>
     requires room { length out.old ≡ length a.now }
     ensures crossed { named_lane result ≡ first_crossing (differences a.now b.now) }
     ensures ok { OnOk result (out.new ≡ differences a.now b.now) }
-    ensures before { IfErr result (λ e. take e.lane out.new ≡ take e.lane (differences a.now b.now)) }
+    ensures before { IfErr result (λ e. SameBelow e.lane out.new (differences a.now b.now)) }
 {
     let mut crossed = false;
     for i in 0..a.len() {

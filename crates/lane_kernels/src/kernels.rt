@@ -1,14 +1,15 @@
-ghost use Rattle.std.specs.Prelude.{◌≡◌, ◌≤◌, ◌+◌, ℕ, length, take, OnOk, IfErr, IsTrue};
+ghost use Rattle.std.specs.Prelude.{◌≡◌, ◌≤◌, ◌+◌, ℕ, length, OnOk, IfErr, IsTrue};
 ghost use Rattle.lane_kernels.specs.declared.TheConstants.{MOST_LANES};
 ghost use Rattle.lane_kernels.specs.Folds.{total, FitsLanes, least, greatest, window_totals};
 ghost use Rattle.lane_kernels.specs.Comparisons.{is_comparison, count_of, truths, selected};
-ghost use Rattle.lane_kernels.specs.Lanes.{sums, differences, first_crossing, named_lane};
+ghost use Rattle.lane_kernels.specs.Lanes.{sums, differences, first_crossing, named_lane, SameBelow};
 ghost use Rattle.lane_kernels.specs.Counting.{raised};
 
 use crate::arithmetic::Crossed;
 use calc_model::Op;
 
-/// The kernels, with a count of the items that they were given. Each has the contract of the call of its name.
+/// The kernels, with a count of the items that they were given, up to the greatest u64. Each has the
+/// contract of the call of its name.
 pub trait Kernels {
     ghost items: { Self → ℕ };
 
@@ -40,7 +41,7 @@ pub trait Kernels {
         requires room { length out.old ≡ length a.now }
         ensures crossed { named_lane result ≡ first_crossing (sums a.now b.now) }
         ensures ok { OnOk result (out.new ≡ sums a.now b.now) }
-        ensures before { IfErr result (λ e. take e.lane out.new ≡ take e.lane (sums a.now b.now)) }
+        ensures before { IfErr result (λ e. SameBelow e.lane out.new (sums a.now b.now)) }
         ensures counted { items self.new ≡ raised (items self.old) (length a.now) };
 
     fn sub(&mut self, a: &[i64], b: &[i64], out: &mut [i64]) -> Result<(), Crossed>
@@ -49,7 +50,7 @@ pub trait Kernels {
         requires room { length out.old ≡ length a.now }
         ensures crossed { named_lane result ≡ first_crossing (differences a.now b.now) }
         ensures ok { OnOk result (out.new ≡ differences a.now b.now) }
-        ensures before { IfErr result (λ e. take e.lane out.new ≡ take e.lane (differences a.now b.now)) }
+        ensures before { IfErr result (λ e. SameBelow e.lane out.new (differences a.now b.now)) }
         ensures counted { items self.new ≡ raised (items self.old) (length a.now) };
 
     fn compare(&mut self, a: &[i64], b: &[i64], op: Op, out: &mut [i64])

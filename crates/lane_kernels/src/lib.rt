@@ -1,7 +1,7 @@
 //! Kernels over spans of raw numbers: plain loops without a branch, which become vector code.
 //!
-//! Each call equals the fold of its definition, allocates nothing and is linear in its slices. A span has at most
-//! [`MOST_LANES`] items.
+//! Each call equals the fold of its definition, allocates nothing and is linear in its slices. A span has
+//! at most [`MOST_LANES`] items.
 #![tactic(auto)]
 
 mod arithmetic;

@@ -4,7 +4,8 @@ ghost use Rattle.lane_kernels.specs.Folds.{window_totals};
 
 use crate::folds::sum;
 
-/// The exact sum of each window of the width, by the place where it begins: one addition and one subtraction each.
+/// The exact sum of each window of the width, by the place where it begins. It takes one addition and one
+/// subtraction a window.
 pub fn window_sums(items: &[i64], width: usize, out: &mut [i128])
     requires short { length items.now ≤ MOST_LANES }
     requires wide { 1 ≤ width }
