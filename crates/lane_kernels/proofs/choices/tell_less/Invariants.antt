@@ -1,0 +1,6 @@
+use Rattle.std.proofs.Common.{◌≡◌, ℕ, pos, ◌<◌, get_or, int_lt}
+use Rattle.lane_kernels.specs.Choosing.{truth_if}
+use Rattle.lane_kernels.proofs.choices.tell_less.Given as goal
+
+abbrev pub invariant-loop-i : goal.invariant-loop-i
+invariant-loop-i l = (k : ℕ) → k < l.i → get_or l.out k (pos 0) ≡ truth_if l.wanted (int_lt (get_or l.a k (pos 0)) (get_or l.b k (pos 0)))

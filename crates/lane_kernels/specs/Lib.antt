@@ -1,0 +1,5 @@
+pub mod Folds
+pub mod Lanes
+pub mod Comparisons
+pub mod Choosing
+pub mod Counting
