@@ -1,0 +1,4 @@
+pub mod Counts
+pub mod BoardMachine
+pub mod DrawPasses
+pub mod DrawRule
