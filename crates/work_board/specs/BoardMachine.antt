@@ -47,7 +47,7 @@ draw units w m =
     else record {
       next = if ltb m.next units then m.next + 1 else m.next;
       workers = slice_set m.workers w (after_draw units m.next worker);
-      markers = m.markers
+      markers = m.markers;
     }
 
 abbrev pub is_marked : List (ℕ × ℕ) → ℕ → Bool

@@ -1,9 +1,8 @@
 -- What contracts say of passes of a draw board.
-use Rattle.std.specs.Prelude.{◌≡◌, ℕ, ◌+◌, ◌-◌, ◌<◌, ◌≤◌, ltb, List, [], ◌∷◌, ◌++◌, Option}
+use Rattle.std.specs.Prelude.{◌≡◌, ℕ, ◌<◌, ◌≤◌, ltb, Option}
 use Rattle.work_board.specs.declared.draw_rule.DrawView.{DrawView}
 use Rattle.work_board.specs.declared.draw_pass.DrawPass.{DrawPass}
 use Rattle.work_board.specs.declared.draw_pass.DrawBoard.{DrawBoard}
-use Rattle.work_board.specs.DrawRule.{view}
 use Rattle.work_board.specs.Counts.{times, once_below}
 use Rattle.work_board.specs.BoardMachine.{Worker, answer, after_draw}
 

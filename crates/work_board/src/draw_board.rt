@@ -5,7 +5,7 @@ ghost use Rattle.work_board.specs.DrawPasses.{view_of, IsPassOf, IsDraw, IsEnd};
 
 use crate::NoMemory;
 use crate::draw_pass::{DrawBoard, DrawPass};
-use crate::draw_rule::{Draws, Joins, Splits};
+use crate::draw_rule::{DrawJoins, DrawSplits, Draws};
 use atomic_table::Table;
 use std::alloc::Global;
 
@@ -34,14 +34,11 @@ impl DrawBoard {
         ensures shorter { IfSome result (λ n. length (view_of pass.old).drawn ≤ n) }
         ensures none { IfNone result (view_of pass.new ≡ with_none (view_of pass.old)) }
     {
-        let next = self
-            .table
-            .shared
-            .fetch_add::<Draws>(&mut pass.seat, 0, 1);
+        let next = self.table.shared.fetch_add::<Draws>(&mut pass.seat, 0, 1);
         if next < self.units { Some(next) } else { None }
     }
 
-    /// Splits off a pass that has drawn nothing and isn't closed. It takes one of the rights of the
+    /// DrawSplits off a pass that has drawn nothing and isn't closed. It takes one of the rights of the
     /// given pass, and hands on none. It takes no memory, and so is never answered `NoMemory`.
     pub fn split(&self, pass: &mut DrawPass) -> Result<DrawPass, NoMemory>
         requires own { IsPassOf self.now pass.old }
@@ -51,14 +48,11 @@ impl DrawBoard {
         ensures new_own { IsOkAnd result (λ new. IsPassOf self.now new) }
         ensures new { IsOkAnd result (λ new. view_of new ≡ new_view self.now.units) }
     {
-        let seat = self
-            .table
-            .shared
-            .split_seat::<Splits>(&mut pass.seat);
+        let seat = self.table.shared.split_seat::<DrawSplits>(&mut pass.seat);
         Ok(DrawPass { seat })
     }
 
-    /// Joins one pass into another, whose list goes on with that of the first. A used right to split
+    /// DrawJoins one pass into another, whose list goes on with that of the first. A used right to split
     /// doesn't come back.
     pub fn join(&self, into: &mut DrawPass, other: DrawPass)
         requires own { IsPassOf self.now into.old }
@@ -69,7 +63,7 @@ impl DrawBoard {
         let DrawPass { seat } = other;
         self.table
             .shared
-            .join_seat::<Joins>(&mut into.seat, seat);
+            .join_seat::<DrawJoins>(&mut into.seat, seat);
     }
 
     /// Ends the board, once every pass that was split off is joined.

@@ -20,9 +20,9 @@ pub struct DrawRule;
 
 pub struct Draws;
 
-pub struct Splits;
+pub struct DrawSplits;
 
-pub struct Joins;
+pub struct DrawJoins;
 
 impl TableRule<u8, DrawView, u64> for DrawRule {
     ghost use Rattle.work_board.specs.DrawRule.{Rule, first_view};
@@ -38,7 +38,7 @@ impl Play<u8, DrawView> for Draws {
     ghost then = { Tells };
 }
 
-impl Split<DrawView> for Splits {
+impl Split<DrawView> for DrawSplits {
     ghost use Rattle.work_board.specs.DrawRule.{one_right_less, new_view};
 
     ghost left = { one_right_less };
@@ -46,7 +46,7 @@ impl Split<DrawView> for Splits {
     ghost right = { λ v. new_view v.units };
 }
 
-impl Join<DrawView> for Joins {
+impl Join<DrawView> for DrawJoins {
     ghost use Rattle.work_board.specs.DrawRule.{both, spent_view};
 
     ghost both = { both };

@@ -8,10 +8,14 @@
 mod draw_board;
 mod draw_pass;
 mod draw_rule;
+mod mark_board;
+mod mark_pass;
+mod mark_rule;
 
 pub use draw_pass::{DrawBoard, DrawPass};
 pub use draw_rule::DrawView;
-
+pub use mark_pass::{MarkBoard, MarkPass};
+pub use mark_rule::MarkView;
 use std::alloc::AllocError;
 
 /// Want of memory.
