@@ -10,10 +10,8 @@ use Rattle.work_board.specs.declared.draw_rule.DrawView.{DrawView}
 use Rattle.work_board.specs.DrawPasses.{IsEnd}
 use Rattle.work_board.specs.Counts.{times, once_below}
 use Rattle.work_board.specs.DrawRule.{new_view, spent_view, with_number, with_none, one_right_less, both, IsDrawn, Rule, Tells}
+use Rattle.work_board.proofs.Schedules.{once_more}
 use Rattle.work_board.proofs.Totals.{total_set, total_has, total_below, alone, each_set, each_snoc}
-
-once_more : (x n : ℕ) → once_below x (n + 1) ≡ once_below x n + cond (eqb n x) 1 0
-once_more x n = grind (arith, nat_tests)
 
 -- what the rule says of each view
 abbrev OfBoard : ℕ → DrawView → Type 0

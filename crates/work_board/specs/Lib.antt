@@ -4,3 +4,4 @@ pub mod DrawPasses
 pub mod DrawRule
 pub mod MarkPasses
 pub mod MarkRule
+pub mod Laws
