@@ -4,7 +4,7 @@ use Rattle.work_board.specs.declared.draw_rule.DrawView.{DrawView}
 use Rattle.work_board.specs.declared.draw_pass.DrawPass.{DrawPass}
 use Rattle.work_board.specs.declared.draw_pass.DrawBoard.{DrawBoard}
 use Rattle.work_board.specs.Counts.{times, once_below}
-use Rattle.work_board.specs.BoardMachine.{Worker, answer, after_draw}
+use Rattle.work_board.specs.BoardMachine.{Worker, answer, after_draw, gather, one_thread}
 
 abbrev pub view_of : DrawPass → DrawView
 view_of pass = pass.seat.me.0
@@ -28,3 +28,8 @@ pub record IsEnd (units : ℕ) (end : DrawView) : Type 0 where
   pub within : bound ≤ units
   pub once : (x : ℕ) → times x end.drawn ≡ once_below x bound
   pub whole : 0 < end.nones → bound ≡ units
+
+-- where a draw was answered None, results at the places of the drawn numbers are those of one thread
+abbrev pub GathersAll : ℕ → DrawView → Type 0
+GathersAll units end =
+    0 < end.nones → (blank : ℕ) (f : ℕ → ℕ) → gather blank f units end.drawn ≡ one_thread f units

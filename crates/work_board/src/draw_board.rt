@@ -1,7 +1,7 @@
 // The calls of a draw board.
 ghost use Rattle.std.specs.Prelude.{◌≡◌, ℕ, ◌+◌, ◌^◌, ◌<◌, ◌≤◌, length, IfOk, IfSome, IfNone, IsOkAnd};
 ghost use Rattle.work_board.specs.DrawRule.{first_view, new_view, with_number, with_none, one_right_less, both};
-ghost use Rattle.work_board.specs.DrawPasses.{view_of, IsPassOf, IsDraw, IsEnd};
+ghost use Rattle.work_board.specs.DrawPasses.{view_of, IsPassOf, IsDraw, IsEnd, GathersAll};
 
 use crate::NoMemory;
 use crate::draw_pass::{DrawBoard, DrawPass};
@@ -70,7 +70,8 @@ impl DrawBoard {
     pub fn close(self, pass: DrawPass)
         requires own { IsPassOf self pass }
         requires joined { (view_of pass).passes + (view_of pass).rights ≡ 65 }
-        ensures { IsEnd self.units (view_of pass) }
+        ensures drawn { IsEnd self.units (view_of pass) }
+        ensures gathered { GathersAll self.units (view_of pass) }
     {
         let DrawBoard { table, units: _ } = self;
         let DrawPass { seat } = pass;
