@@ -7,9 +7,10 @@ use lib.ListN.{get_elem?}
 use Rattle.atomic_table.specs.Table.{State, Me, step, keeps, Allows, Splits, Joins}
 use Rattle.atomic_table.proofs.Lists.{at_set}
 use Rattle.work_board.specs.declared.draw_rule.DrawView.{DrawView}
-use Rattle.work_board.specs.DrawPasses.{IsEnd}
+use Rattle.work_board.specs.DrawViews.{IsEnd}
 use Rattle.work_board.specs.Counts.{times, once_below}
-use Rattle.work_board.specs.DrawRule.{new_view, spent_view, with_number, with_none, one_right_less, both, IsDrawn, Rule, Tells}
+use Rattle.work_board.specs.DrawRule.{spent_view, IsDrawn, Rule, Tells}
+use Rattle.work_board.specs.DrawViews.{new_view, with_number, with_none, one_right_less, both}
 use Rattle.work_board.proofs.Schedules.{once_more}
 use Rattle.work_board.proofs.Totals.{total_set, total_has, total_below, alone, each_set, each_snoc}
 

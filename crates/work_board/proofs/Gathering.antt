@@ -7,7 +7,7 @@ use Rattle.std.proofs.lemmas.Bool.Decides.{nat_tests}
 use mathlib.Core.Logic.{dite}
 use native.Mathlib.Decide.{ℕ_discrete}
 use Rattle.work_board.specs.declared.draw_rule.DrawView.{DrawView}
-use Rattle.work_board.specs.DrawPasses.{IsEnd, GathersAll}
+use Rattle.work_board.specs.DrawViews.{IsEnd, GathersAll}
 use Rattle.work_board.specs.Counts.{times, once_below}
 use Rattle.work_board.specs.BoardMachine.{gather, one_thread}
 
@@ -52,4 +52,4 @@ gathers blank f units numbers once =
 
 pub gathers_all : (units : ℕ) (end : DrawView) → IsEnd units end → GathersAll units end
 gathers_all units end is some_none blank f =
-  gathers blank f units end.drawn (λ x. is.once x ∙ ap (once_below x) (is.whole some_none))
+    gathers blank f units end.drawn (λ x. is.once x ∙ ap (once_below x) (is.whole some_none))

@@ -12,8 +12,9 @@ use lib.ListN.{get_elem?}
 use Rattle.atomic_table.specs.Table.{State, Me, step, keeps, Allows, Splits, Joins}
 use Rattle.work_board.specs.declared.mark_rule.MarkView.{MarkView}
 use Rattle.work_board.specs.Counts.{times}
-use Rattle.work_board.specs.MarkPasses.{IsMarkEnd}
-use Rattle.work_board.specs.MarkRule.{new_view, spent_view, with_listed, with_met, one_right_less, both, bit_of, IsMarked, marked, Tells}
+use Rattle.work_board.specs.MarkViews.{IsMarkEnd}
+use Rattle.work_board.specs.MarkRule.{spent_view, bit_of, IsMarked, marked, Tells}
+use Rattle.work_board.specs.MarkViews.{new_view, with_listed, with_met, one_right_less, both}
 use Rattle.work_board.proofs.Bits.{same_power, same_bit, with_bit, bit_here, bit_else, clear}
 use Rattle.work_board.proofs.Totals.{total_set, total_has, alone, each_set, each_snoc, set_there}
 use Rattle.work_board.proofs.Distinct.{at_most}

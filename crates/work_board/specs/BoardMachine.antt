@@ -72,7 +72,8 @@ all_drawn m = flat_map (λ worker. worker.drawn) m.workers
 
 -- f of each of the numbers stands at the place of that number, and `blank` at any other
 abbrev pub gather : {A : Type 0} → A → (ℕ → A) → ℕ → List ℕ → List A
-gather blank f units numbers = fold (λ results k. slice_set results k (f k)) (replicate units blank) numbers
+gather blank f units numbers =
+    fold (λ results k. slice_set results k (f k)) (replicate units blank) numbers
 
 -- what one thread makes of the units
 abbrev pub one_thread : {A : Type 0} → (ℕ → A) → ℕ → List A

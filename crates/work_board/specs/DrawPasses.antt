@@ -1,17 +1,17 @@
 -- What contracts say of passes of a draw board.
-use Rattle.std.specs.Prelude.{◌≡◌, ℕ, ◌<◌, ◌≤◌, ltb, Option}
+use Rattle.std.specs.Prelude.{◌≡◌, ℕ, ltb, Option}
 use Rattle.work_board.specs.declared.draw_rule.DrawView.{DrawView}
 use Rattle.work_board.specs.declared.draw_pass.DrawPass.{DrawPass}
 use Rattle.work_board.specs.declared.draw_pass.DrawBoard.{DrawBoard}
-use Rattle.work_board.specs.Counts.{times, once_below}
-use Rattle.work_board.specs.BoardMachine.{Worker, answer, after_draw, gather, one_thread}
+use Rattle.work_board.specs.BoardMachine.{Worker, answer, after_draw}
 
 abbrev pub view_of : DrawPass → DrawView
 view_of pass = pass.seat.me.0
 
 -- the pass came from this board
 abbrev pub IsPassOf : DrawBoard → DrawPass → Type 0
-IsPassOf board pass = (pass.seat.table_id ≡ board.table.shared.table_id) × ((view_of pass).units ≡ board.units)
+IsPassOf board pass =
+    (pass.seat.table_id ≡ board.table.shared.table_id) × ((view_of pass).units ≡ board.units)
 
 -- the pass as a worker of the Board machine
 abbrev pub worker_of : DrawPass → Worker
@@ -20,16 +20,5 @@ worker_of pass = record { drawn = (view_of pass).drawn; closed = ltb 0 (view_of 
 -- a draw is the machine's event at some next number: that is what the one atomic step found
 abbrev pub IsDraw : ℕ → DrawPass → Option ℕ → DrawPass → Type 0
 IsDraw units old result new =
-    (next : ℕ) × (result ≡ answer units next) × (worker_of new ≡ after_draw units next (worker_of old))
-
--- the numbers below some bound were drawn, each once, and the bound is `units` where a draw was answered None
-pub record IsEnd (units : ℕ) (end : DrawView) : Type 0 where
-  pub bound : ℕ
-  pub within : bound ≤ units
-  pub once : (x : ℕ) → times x end.drawn ≡ once_below x bound
-  pub whole : 0 < end.nones → bound ≡ units
-
--- where a draw was answered None, results at the places of the drawn numbers are those of one thread
-abbrev pub GathersAll : ℕ → DrawView → Type 0
-GathersAll units end =
-    0 < end.nones → (blank : ℕ) (f : ℕ → ℕ) → gather blank f units end.drawn ≡ one_thread f units
+    (next : ℕ) × (result ≡ answer units next)
+    × (worker_of new ≡ after_draw units next (worker_of old))

@@ -2,7 +2,7 @@
 use Rattle.std.specs.Prelude.{◌≡◌, ℕ, ◌<◌, ◌≤◌, ◌==◌, ◌++◌, true, length, List, count_by}
 use Rattle.work_board.specs.Counts.{times, once_below}
 use Rattle.work_board.specs.BoardMachine.{Machine, Event, opened, after, event, worker_at, all_drawn, gather, one_thread}
-use Rattle.work_board.specs.DrawPasses.{IsEnd}
+use Rattle.work_board.specs.DrawViews.{IsEnd}
 use Rattle.work_board.specs.declared.draw_rule.DrawView.{DrawView}
 
 -- the machine after some events
@@ -22,8 +22,10 @@ DrawsBelow = (units workers : ℕ) (events : List Event) → (run units workers 
 -- where a worker is closed, all units are drawn
 abbrev pub ClosedAtEnd : Type 0
 ClosedAtEnd =
-    (units workers : ℕ) (events : List Event) (w : ℕ) → w < length (run units workers events).workers
-    → (worker_at (run units workers events).workers w).closed ≡ true → (run units workers events).next ≡ units
+    (units workers : ℕ) (events : List Event) (w : ℕ)
+    → w < length (run units workers events).workers
+    → (worker_at (run units workers events).workers w).closed ≡ true
+    → (run units workers events).next ≡ units
 
 -- a bit has one first marker at most
 abbrev pub MarksOnce : Type 0
@@ -34,7 +36,8 @@ MarksOnce =
 -- and keeps it
 abbrev pub MarkersStay : Type 0
 MarkersStay =
-    (units : ℕ) (e : Event) (m : Machine) → (new : List (ℕ × ℕ)) × ((event units e m).markers ≡ m.markers ++ new)
+    (units : ℕ) (e : Event) (m : Machine)
+    → (new : List (ℕ × ℕ)) × ((event units e m).markers ≡ m.markers ++ new)
 
 -- the joined lists of a board's passes hold what the machine's workers drew
 abbrev pub DrawnAlike : Type 0
@@ -43,10 +46,11 @@ DrawnAlike =
     → (run units workers events).next ≡ end.bound
     → (x : ℕ) → times x view.drawn ≡ times x (all_drawn (run units workers events))
 
--- f of the numbers that are each drawn once, whoever drew them, is what one thread makes of the units
+-- f of numbers that are each drawn once, whoever drew them, is what one thread makes of the units
 abbrev pub GathersOnce : Type 0 → Type 0
 GathersOnce A =
-    (blank : A) (f : ℕ → A) (units : ℕ) (numbers : List ℕ) → ((x : ℕ) → times x numbers ≡ once_below x units)
+    (blank : A) (f : ℕ → A) (units : ℕ) (numbers : List ℕ)
+    → ((x : ℕ) → times x numbers ≡ once_below x units)
     → gather blank f units numbers ≡ one_thread f units
 
 abbrev pub GathersRun : Type 0 → Type 0

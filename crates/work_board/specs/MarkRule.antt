@@ -1,37 +1,16 @@
 -- The rule of a mark board's table: its words and the views of its passes. What its steps tell.
-use Rattle.std.specs.Prelude.{◌≡◌, ℕ, ◌+◌, ◌-◌, ◌*◌, ◌/◌, ◌%◌, ◌^◌, ◌<◌, ◌≤◌, ◌==◌, List, [], ◌∷◌, ◌++◌, length, sum_by, slice_index, if◌then◌else◌}
+use Rattle.std.specs.Prelude.{◌≡◌, ℕ, ◌+◌, ◌*◌, ◌/◌, ◌%◌, ◌^◌, ◌<◌, ◌≤◌, ◌==◌, List, [], length, sum_by, slice_index, if◌then◌else◌}
 use Rattle.std.specs.Int.{bit_at}
 use mathlib.Core.Option.{some}
 use lib.ListN.{get_elem?}
 use Rattle.atomic_table.specs.Table.{Me, Step}
 use Rattle.work_board.specs.declared.mark_rule.MarkView.{MarkView}
+use Rattle.work_board.specs.MarkViews.{view, with_listed, with_met}
 use Rattle.work_board.specs.Counts.{times}
 
-abbrev pub view : ℕ → ℕ → ℕ → List ℕ → List ℕ → MarkView
-view bits rights passes listed met =
-    record { bits = bits; rights = rights; passes = passes; listed = listed; met = met }
-
--- the pass of `open`, a pass that was split off, and one that was joined into another
-abbrev pub first_view : ℕ → MarkView
-first_view bits = view bits 64 1 [] []
-
-abbrev pub new_view : ℕ → MarkView
-new_view bits = view bits 0 1 [] []
-
+-- what is left of a pass that was joined into another
 abbrev pub spent_view : MarkView
 spent_view = view 0 0 0 [] []
-
-abbrev pub with_listed : ℕ → MarkView → MarkView
-with_listed bit v = view v.bits v.rights v.passes (v.listed ++ bit ∷ []) v.met
-
-abbrev pub with_met : ℕ → MarkView → MarkView
-with_met bit v = view v.bits v.rights v.passes v.listed (v.met ++ bit ∷ [])
-
-abbrev pub one_right_less : MarkView → MarkView
-one_right_less v = view v.bits (v.rights - 1) v.passes v.listed v.met
-
-abbrev pub both : MarkView → MarkView → MarkView
-both v w = view v.bits (v.rights + w.rights) (v.passes + w.passes) (v.listed ++ w.listed) (v.met ++ w.met)
 
 -- 1 where the bit is set in the words, of 64 bits each
 abbrev pub bit_of : List ℕ → ℕ → ℕ
@@ -41,8 +20,10 @@ bit_of words bit = bit_at (slice_index words (bit / 64)) (bit % 64)
 pub record IsMarked (bits : ℕ) (words : List ℕ) (views : List MarkView) : Type 0 where
   pub room : bits ≤ 64 * length words
   pub inside : (bit : ℕ) → bits ≤ bit → bit_of words bit ≡ 0
-  pub same : (seat : ℕ) (v : MarkView) → get_elem? views seat ≡ some v → 0 < v.passes → v.bits ≡ bits
-  pub spent : (seat : ℕ) (v : MarkView) → get_elem? views seat ≡ some v → v.passes ≡ 0 → (v.listed ≡ []) × (v.met ≡ [])
+  pub same :
+      (seat : ℕ) (v : MarkView) → get_elem? views seat ≡ some v → 0 < v.passes → v.bits ≡ bits
+  pub spent :
+      (seat : ℕ) (v : MarkView) → get_elem? views seat ≡ some v → v.passes ≡ 0 → (v.listed ≡ []) × (v.met ≡ [])
   pub listed : (bit : ℕ) → sum_by (λ v. times bit v.listed) views ≡ bit_of words bit
   pub met : (bit : ℕ) → 0 < sum_by (λ v. times bit v.met) views → bit_of words bit ≡ 1
   pub parts : sum_by (λ v. v.passes) views + sum_by (λ v. v.rights) views ≡ 65
@@ -56,4 +37,5 @@ abbrev pub Tells : Step ℕ → Me ℕ MarkView → ℕ → Me ℕ MarkView → 
 Tells step old found new =
     (length new.0.listed ≤ old.0.bits)
     × (new.1 ≡ old.1)
-    × ((bit : ℕ) → bit / 64 ≡ step.word → 2 ^ (bit % 64) ≡ step.first → new.0 ≡ marked bit found old.0)
+    × ((bit : ℕ) → bit / 64 ≡ step.word → 2 ^ (bit % 64) ≡ step.first
+    → new.0 ≡ marked bit found old.0)

@@ -1,7 +1,8 @@
 // The calls of a draw board.
 ghost use Rattle.std.specs.Prelude.{◌≡◌, ℕ, ◌+◌, ◌^◌, ◌<◌, ◌≤◌, length, IfOk, IfSome, IfNone, IsOkAnd};
-ghost use Rattle.work_board.specs.DrawRule.{first_view, new_view, with_number, with_none, one_right_less, both};
-ghost use Rattle.work_board.specs.DrawPasses.{view_of, IsPassOf, IsDraw, IsEnd, GathersAll};
+ghost use Rattle.work_board.specs.DrawViews.{first_view, new_view, with_number, with_none, one_right_less, both};
+ghost use Rattle.work_board.specs.DrawPasses.{view_of, IsPassOf, IsDraw};
+ghost use Rattle.work_board.specs.DrawViews.{IsEnd, GathersAll};
 
 use crate::NoMemory;
 use crate::draw_pass::{DrawBoard, DrawPass};
@@ -38,8 +39,8 @@ impl DrawBoard {
         if next < self.units { Some(next) } else { None }
     }
 
-    /// DrawSplits off a pass that has drawn nothing and isn't closed. It takes one of the rights of the
-    /// given pass, and hands on none. It takes no memory, and so is never answered `NoMemory`.
+    /// Splits off a pass that has drawn nothing and isn't closed. It takes one of the rights of
+    /// the given pass, and hands on none. It takes no memory, and so is never answered `NoMemory`.
     pub fn split(&self, pass: &mut DrawPass) -> Result<DrawPass, NoMemory>
         requires own { IsPassOf self.now pass.old }
         requires right { 0 < (view_of pass.old).rights }
@@ -52,7 +53,7 @@ impl DrawBoard {
         Ok(DrawPass { seat })
     }
 
-    /// DrawJoins one pass into another, whose list goes on with that of the first. A used right to split
+    /// Joins one pass into another, whose list goes on with that of the first. A used right to split
     /// doesn't come back.
     pub fn join(&self, into: &mut DrawPass, other: DrawPass)
         requires own { IsPassOf self.now into.old }

@@ -5,7 +5,7 @@ use crate::draw_rule::{DrawRule, DrawView};
 use atomic_table::{Seat, Table};
 use std::alloc::Global;
 
-/// A board of units that are numbered from 0. Each unit is drawn once, by whichever worker comes first.
+/// A board of units that are numbered from 0. Each is drawn once, by whichever worker comes first.
 #[derive(Drop)]
 pub struct DrawBoard {
     pub(crate) table: Table<u8, DrawView, u64, DrawRule, Global>,

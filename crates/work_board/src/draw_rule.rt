@@ -12,7 +12,8 @@ pub struct DrawView {
     pub passes: u64,
     /// How many of its draws were answered None. The pass is closed where there is one.
     pub nones: u64,
-    /// The numbers that it drew, and those of the passes joined into it, in the order of these calls.
+    /// The numbers that it drew, and those of the passes joined into it, in the order of these
+    /// calls.
     pub drawn: LinkedList<u64>,
 }
 
@@ -25,7 +26,8 @@ pub struct DrawSplits;
 pub struct DrawJoins;
 
 impl TableRule<u8, DrawView, u64> for DrawRule {
-    ghost use Rattle.work_board.specs.DrawRule.{Rule, first_view};
+    ghost use Rattle.work_board.specs.DrawRule.{Rule};
+    ghost use Rattle.work_board.specs.DrawViews.{first_view};
 
     ghost holds = { λ units s. Rule units s.words s.views };
 
@@ -39,7 +41,7 @@ impl Play<u8, DrawView> for Draws {
 }
 
 impl Split<DrawView> for DrawSplits {
-    ghost use Rattle.work_board.specs.DrawRule.{one_right_less, new_view};
+    ghost use Rattle.work_board.specs.DrawViews.{one_right_less, new_view};
 
     ghost left = { one_right_less };
 
@@ -47,7 +49,8 @@ impl Split<DrawView> for DrawSplits {
 }
 
 impl Join<DrawView> for DrawJoins {
-    ghost use Rattle.work_board.specs.DrawRule.{both, spent_view};
+    ghost use Rattle.work_board.specs.DrawRule.{spent_view};
+    ghost use Rattle.work_board.specs.DrawViews.{both};
 
     ghost both = { both };
 

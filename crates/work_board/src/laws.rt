@@ -1,5 +1,6 @@
 // What holds on every schedule. The functions do nothing: their contracts are the laws.
-ghost use Rattle.work_board.specs.Laws.{DrawsOnce, DrawsBelow, ClosedAtEnd, MarksOnce, MarkersStay, DrawnAlike, GathersOnce, GathersRun};
+ghost use Rattle.work_board.specs.Laws.{DrawsOnce, DrawsBelow, ClosedAtEnd, DrawnAlike};
+ghost use Rattle.work_board.specs.Laws.{MarksOnce, MarkersStay, GathersOnce, GathersRun};
 
 /// On any schedule each unit is drawn once, and all of them where a worker was told that none is left.
 pub fn each_unit_is_drawn_once()

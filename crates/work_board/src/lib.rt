@@ -1,7 +1,7 @@
 //! Boards that share work among threads. No call waits.
 //!
-//! From a draw board each worker draws numbers of units, and no unit is drawn twice. On a mark board
-//! workers mark bits, and each bit has one first marker. A worker acts through a pass of its own,
+//! From a draw board each worker draws numbers of units, and no unit is drawn twice. On a mark
+//! board workers mark bits, and each bit has one first marker. A worker acts through a pass of its own,
 //! which takes no memory: what a pass drew or marked is known to contracts alone.
 #![tactic(auto)]
 

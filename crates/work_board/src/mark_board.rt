@@ -1,7 +1,8 @@
 // The calls of a mark board.
 ghost use Rattle.std.specs.Prelude.{◌≡◌, ℕ, ◌+◌, ◌^◌, ◌<◌, ◌≤◌, length, true, false, IfOk, IsOkAnd};
-ghost use Rattle.work_board.specs.MarkRule.{first_view, new_view, with_listed, with_met, one_right_less, both};
-ghost use Rattle.work_board.specs.MarkPasses.{mark_view_of, IsMarkPassOf, IsMarkEnd};
+ghost use Rattle.work_board.specs.MarkViews.{first_view, new_view, with_listed, with_met, one_right_less, both};
+ghost use Rattle.work_board.specs.MarkViews.{IsMarkEnd};
+ghost use Rattle.work_board.specs.MarkPasses.{mark_view_of, IsMarkPassOf, IsFirstMark, IsLaterMark};
 
 use crate::NoMemory;
 use crate::mark_pass::{MarkBoard, MarkPass};
@@ -33,8 +34,8 @@ impl MarkBoard {
         requires own { IsMarkPassOf self.now pass.old }
         requires inside { bit < self.now.bits }
         ensures own { IsMarkPassOf self.now pass.new }
-        ensures first { result ≡ true → mark_view_of pass.new ≡ with_listed bit (mark_view_of pass.old) }
-        ensures met { result ≡ false → mark_view_of pass.new ≡ with_met bit (mark_view_of pass.old) }
+        ensures first { result ≡ true → IsFirstMark bit pass.old pass.new }
+        ensures met { result ≡ false → IsLaterMark bit pass.old pass.new }
         ensures room { length (mark_view_of pass.new).listed ≤ self.now.bits }
     {
         let mask = 1 << (bit % WORD_BITS);
@@ -46,8 +47,8 @@ impl MarkBoard {
         found & mask == 0
     }
 
-    /// Splits off a pass whose lists are empty. It takes one of the rights of the given pass, and hands
-    /// on none. It takes no memory, and so is never answered `NoMemory`.
+    /// Splits off a pass whose lists are empty. It takes one of the rights of the given pass, and
+    /// hands on none. It takes no memory, and so is never answered `NoMemory`.
     pub fn split(&self, pass: &mut MarkPass) -> Result<MarkPass, NoMemory>
         requires own { IsMarkPassOf self.now pass.old }
         requires right { 0 < (mark_view_of pass.old).rights }
@@ -60,8 +61,8 @@ impl MarkBoard {
         Ok(MarkPass { seat })
     }
 
-    /// Joins one pass into another, whose lists go on with those of the first. A used right to split
-    /// doesn't come back.
+    /// Joins one pass into another, whose lists go on with those of the first. A used right to
+    /// split doesn't come back.
     pub fn join(&self, into: &mut MarkPass, other: MarkPass)
         requires own { IsMarkPassOf self.now into.old }
         requires other_own { IsMarkPassOf self.now other }

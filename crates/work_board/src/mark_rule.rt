@@ -10,9 +10,10 @@ pub struct MarkView {
     pub rights: u64,
     /// How many passes it holds: itself, and those that were joined into it.
     pub passes: u64,
-    /// The bits that it marked first, and those of the passes joined into it, in the order of these calls.
+    /// The bits that it marked first, and those of the passes joined into it, in the order of
+    /// these calls.
     pub listed: LinkedList<u64>,
-    /// The bits that it found marked, and those of the passes joined into it, in the order of these calls.
+    /// The bits that it found marked, and those of the passes joined into it, in the same order.
     pub met: LinkedList<u64>,
 }
 
@@ -25,7 +26,8 @@ pub struct MarkSplits;
 pub struct MarkJoins;
 
 impl TableRule<u8, MarkView, u64> for MarkRule {
-    ghost use Rattle.work_board.specs.MarkRule.{IsMarked, first_view};
+    ghost use Rattle.work_board.specs.MarkRule.{IsMarked};
+    ghost use Rattle.work_board.specs.MarkViews.{first_view};
 
     ghost holds = { λ bits s. IsMarked bits s.words s.views };
 
@@ -39,7 +41,7 @@ impl Play<u8, MarkView> for Marks {
 }
 
 impl Split<MarkView> for MarkSplits {
-    ghost use Rattle.work_board.specs.MarkRule.{one_right_less, new_view};
+    ghost use Rattle.work_board.specs.MarkViews.{one_right_less, new_view};
 
     ghost left = { one_right_less };
 
@@ -47,7 +49,8 @@ impl Split<MarkView> for MarkSplits {
 }
 
 impl Join<MarkView> for MarkJoins {
-    ghost use Rattle.work_board.specs.MarkRule.{both, spent_view};
+    ghost use Rattle.work_board.specs.MarkRule.{spent_view};
+    ghost use Rattle.work_board.specs.MarkViews.{both};
 
     ghost both = { both };
 
