@@ -14,7 +14,7 @@ use Rattle.calc_book.specs.declared.limits.TheConstants.{MOST_BYTES}
 use Rattle.calc_book.specs.BookForm.{book_read, is_plain_book, is_plain_byte, is_plain_record}
 use Rattle.calc_book.proofs.Parts.{first_of}
 use Rattle.calc_cli.specs.declared.limits.TheConstants.{MOST_SCRIPT_BYTES}
-use Rattle.calc_cli.specs.declared.status.TheConstants.{BOOK_REFUSED, DESK_FAILED, DONE, LINE_REFUSED, SCRIPT_TOO_LONG}
+use Rattle.calc_cli.specs.declared.status.TheConstants.{DESK_FAILED, DONE, LINE_REFUSED, SCRIPT_TOO_LONG}
 use Rattle.calc_cli.specs.Ending.{Ending, answered, ending, calculated, not_built, too_long}
 use Rattle.calc_cli.specs.Output.{Session, has_refusal, output}
 use Rattle.calc_cli.specs.Inputs.{IsLoaded}

@@ -1,7 +1,7 @@
 -- What was written of a whole, and what is still to come.
-use Rattle.std.proofs.Common.{◌≡◌, ℕ, ◌||◌, Bool, true, false, List, [], ◌++◌, length, sym, ap, subst, refl, ◌∙◌, append_assoc, append-nil, Option, arith}
+use Rattle.std.proofs.Common.{◌≡◌, ℕ, ◌||◌, Bool, true, false, List, ◌++◌, length, sym, ap, subst, ◌∙◌, append_assoc, Option, arith}
 use Rattle.std.specs.Io.KnownBytes.{Appends}
-use Rattle.std.proofs.KnownBytes.{Appends-nil, Appends-trans}
+use Rattle.std.proofs.KnownBytes.{Appends-trans}
 use Rattle.std.proofs.lemmas.List.{length-append}
 use Rattle.calc_io.specs.Sink.{HasRoom, RoomFalls}
 use Rattle.calc_io.proofs.Rooms.{HasRoom-rest, HasRoom-less}

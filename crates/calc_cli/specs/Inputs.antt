@@ -1,5 +1,5 @@
 -- The inputs of a run on the way to its end, as the code has them.
-use Rattle.std.specs.Prelude.{◌≡◌, ℕ, ◌+◌, ◌≤◌, ◌<◌, ◌^◌, nat_lt, true, false, ⊤, List, [], drop, length, Option, None, Some, Vec}
+use Rattle.std.specs.Prelude.{◌≡◌, ℕ, ◌+◌, ◌≤◌, nat_lt, true, false, ⊤, List, [], drop, length, Option, None, Some, Vec}
 use Rattle.std.specs.declared.alloc.Global.{Global}
 use Rattle.calc_model.specs.Books.{Book}
 use Rattle.calc_book.specs.BookForm.{book_read, is_plain_book}

@@ -1,6 +1,6 @@
 -- A book stays one under every edit: its entries stay in order, and what they can be.
-use Rattle.std.proofs.Common.{◌≡◌, ◌≤◌, ◌+◌, Bool, true, false, not, ◌&&◌, ◌||◌, cond, T, nat_le, ℕ, suc, List, [], ◌∷◌, length, refl, sym, ap, subst, ◌∙◌, arith}
-use Rattle.std.specs.Prelude.{Result, Ok, Err}
+use Rattle.std.proofs.Common.{◌≡◌, ◌≤◌, ◌+◌, Bool, true, false, not, ◌&&◌, ◌||◌, cond, T, nat_le, suc, List, [], ◌∷◌, length, refl, sym, ap, subst, ◌∙◌, arith}
+use Rattle.std.specs.Prelude.{Ok, Err}
 use Rattle.std.specs.List.{filter, list_all}
 use Rattle.std.specs.Ordering.{is_lt, match_ordering}
 use Rattle.std.specs.declared.cmp.Ordering.{Ordering}
@@ -9,15 +9,13 @@ use Rattle.std.specs.FinMap.Entries.{below_all, by_order, is_sorted, is_sorted-p
 use Rattle.std.specs.BTreeMap.{insert_entry, is_at}
 use Rattle.std.specs.Map.{remove_entry}
 use Rattle.std.proofs.lemmas.Bool.{leb-true}
-use Rattle.calc_addr.specs.Places.{Place, Rectangle, covers, place_cmp}
+use Rattle.calc_addr.specs.Places.{Place, covers, place_cmp}
 use Rattle.calc_model.specs.declared.limits.TheConstants.{MOST_CELLS}
 use Rattle.calc_model.specs.declared.content.Content.{Content}
-use Rattle.calc_model.specs.declared.edit.Edit.{Edit}
 use Rattle.calc_model.specs.declared.edit.Edit.TheVariants.{Set, Clear, Copy, Fill, InsertRows, DeleteRows, Name, Unname, Make}
-use Rattle.calc_model.specs.declared.edit.EditCause.{EditCause}
 use Rattle.calc_model.specs.declared.edit.EditCause.TheVariants.{CellsFull}
 use Rattle.calc_model.specs.Books.{Book, IsBook, is_cell_entry, is_content, is_held, is_place, with_content}
-use Rattle.calc_model.specs.Step.{KeepsBooks, if_cells_fit, is_edit, step, without_area}
+use Rattle.calc_model.specs.Step.{KeepsBooks, if_cells_fit, without_area}
 use Rattle.calc_model.proofs.Areas.{both_true}
 use Rattle.calc_model.proofs.Places.{places_total}
 

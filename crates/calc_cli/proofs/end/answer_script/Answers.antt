@@ -1,8 +1,8 @@
-use Rattle.std.proofs.Common.{rules, ◌≡◌, Bool, true, false, length, refl, subst, sym, arith}
+use Rattle.std.proofs.Common.{rules, true, false, length, refl, subst, sym, arith}
 use Rattle.calc_io.specs.Sink.{HasRoom}
 use Rattle.byte_cuts.specs.Lines.{lines_of}
 use Rattle.formula_reader.specs.Fields.{field_of}
-use Rattle.calc_cli.specs.declared.status.TheConstants.{DONE, LINE_REFUSED, NO_MEMORY, SINK_FAILED}
+use Rattle.calc_cli.specs.declared.status.TheConstants.{DONE, LINE_REFUSED}
 use Rattle.calc_cli.specs.Ending.{answered, calculated}
 use Rattle.calc_cli.specs.Output.{Session, output}
 use Rattle.calc_cli.specs.Runs.{Ends}

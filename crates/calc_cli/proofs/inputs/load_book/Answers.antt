@@ -1,4 +1,4 @@
-use Rattle.std.proofs.Common.{rules, ◌≡◌, Some, IfSome, inr, subst}
+use Rattle.std.proofs.Common.{rules, ◌≡◌, subst}
 use Rattle.calc_cli.specs.Inputs.{IsLoaded}
 use Rattle.calc_cli.proofs.Ended.{loaded_whole}
 use Rattle.calc_cli.proofs.inputs.load_book.Goals as goal

@@ -1,4 +1,4 @@
-use Rattle.std.proofs.Common.{[], ◌≡◌, ◌+◌, Some, None, drop, ap, subst, ◌∙◌}
+use Rattle.std.proofs.Common.{[], ◌+◌, Some, None, drop, ap, subst, ◌∙◌}
 use Rattle.calc_book.specs.declared.limits.TheConstants.{MOST_BYTES}
 use Rattle.calc_cli.specs.declared.limits.TheConstants.{MOST_SCRIPT_BYTES}
 use Rattle.formula_reader.specs.Fields.{field_of}
