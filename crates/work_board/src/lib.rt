@@ -12,6 +12,8 @@ mod laws;
 mod mark_board;
 mod mark_pass;
 mod mark_rule;
+#[cfg(test)]
+mod tests;
 
 pub use draw_pass::{DrawBoard, DrawPass};
 pub use draw_rule::DrawView;
