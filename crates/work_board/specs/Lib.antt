@@ -1,0 +1,9 @@
+pub mod Counts
+pub mod BoardMachine
+pub mod Laws
+pub mod DrawViews
+pub mod DrawPasses
+pub mod DrawRule
+pub mod MarkViews
+pub mod MarkPasses
+pub mod MarkRule

@@ -1,0 +1,88 @@
+// The calls of a mark board.
+ghost use Rattle.std.specs.Prelude.{◌≡◌, ℕ, ◌+◌, ◌^◌, ◌<◌, ◌≤◌, length, true, false, IfOk, IsOkAnd};
+ghost use Rattle.work_board.specs.MarkViews.{first_view, new_view, with_listed, with_met, one_right_less, both};
+ghost use Rattle.work_board.specs.MarkViews.{IsMarkEnd};
+ghost use Rattle.work_board.specs.MarkPasses.{mark_view_of, IsMarkPassOf, IsFirstMark, IsLaterMark};
+
+use crate::NoMemory;
+use crate::mark_pass::{MarkBoard, MarkPass};
+use crate::mark_rule::{MarkJoins, MarkSplits, Marks};
+use atomic_table::Table;
+use std::alloc::Global;
+
+/// How many bits a word of the board holds.
+const WORD_BITS: u64 = 64;
+
+impl MarkBoard {
+    /// A board of this many bits, none of them set, with its first pass, from which 64 more can be
+    /// split off. It takes a word for every 64 bits, and one more.
+    pub fn open(alloc: Global, bits: u64) -> Result<(MarkBoard, MarkPass), NoMemory>
+        requires { bits < 2 ^ 32 }
+        ensures bits { IfOk result (λ made. made.0.bits ≡ bits) }
+        ensures own { IfOk result (λ made. IsMarkPassOf made.0 made.1) }
+        ensures first { IfOk result (λ made. mark_view_of made.1 ≡ first_view bits) }
+    {
+        let words = vec![in alloc; 0; (bits / WORD_BITS + 1) as usize]?;
+        let (table, seat) = Table::of_words(alloc, words.as_slice(), &bits)?;
+        Ok((MarkBoard { table, bits }, MarkPass { seat }))
+    }
+
+    /// Sets a bit, and says whether this pass is its first marker. It is one atomic step.
+    ///
+    /// No clause says which of several workers comes first.
+    pub fn mark(&self, pass: &mut MarkPass, bit: u64) -> bool
+        requires own { IsMarkPassOf self.now pass.old }
+        requires inside { bit < self.now.bits }
+        ensures own { IsMarkPassOf self.now pass.new }
+        ensures first { result ≡ true → IsFirstMark bit pass.old pass.new }
+        ensures met { result ≡ false → IsLaterMark bit pass.old pass.new }
+        ensures room { length (mark_view_of pass.new).listed ≤ self.now.bits }
+    {
+        let mask = 1 << (bit % WORD_BITS);
+        let word = (bit / WORD_BITS) as usize;
+        let found = self
+            .table
+            .shared
+            .fetch_or::<Marks>(&mut pass.seat, word, mask);
+        found & mask == 0
+    }
+
+    /// Splits off a pass whose lists are empty. It takes one of the rights of the given pass, and
+    /// hands on none. It takes no memory, and so is never answered `NoMemory`.
+    pub fn split(&self, pass: &mut MarkPass) -> Result<MarkPass, NoMemory>
+        requires own { IsMarkPassOf self.now pass.old }
+        requires right { 0 < (mark_view_of pass.old).rights }
+        ensures own { IsMarkPassOf self.now pass.new }
+        ensures left { mark_view_of pass.new ≡ one_right_less (mark_view_of pass.old) }
+        ensures new_own { IsOkAnd result (λ new. IsMarkPassOf self.now new) }
+        ensures new { IsOkAnd result (λ new. mark_view_of new ≡ new_view self.now.bits) }
+    {
+        let seat = self.table.shared.split_seat::<MarkSplits>(&mut pass.seat);
+        Ok(MarkPass { seat })
+    }
+
+    /// Joins one pass into another, whose lists go on with those of the first. A used right to
+    /// split doesn't come back.
+    pub fn join(&self, into: &mut MarkPass, other: MarkPass)
+        requires own { IsMarkPassOf self.now into.old }
+        requires other_own { IsMarkPassOf self.now other }
+        ensures own { IsMarkPassOf self.now into.new }
+        ensures both { mark_view_of into.new ≡ both (mark_view_of into.old) (mark_view_of other) }
+    {
+        let MarkPass { seat } = other;
+        self.table
+            .shared
+            .join_seat::<MarkJoins>(&mut into.seat, seat);
+    }
+
+    /// Ends the board, once every pass that was split off is joined.
+    pub fn close(self, pass: MarkPass)
+        requires own { IsMarkPassOf self pass }
+        requires joined { (mark_view_of pass).passes + (mark_view_of pass).rights ≡ 65 }
+        ensures { IsMarkEnd self.bits (mark_view_of pass) }
+    {
+        let MarkBoard { table, bits: _ } = self;
+        let MarkPass { seat } = pass;
+        table.close_with(seat).free();
+    }
+}
