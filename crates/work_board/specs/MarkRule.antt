@@ -23,7 +23,8 @@ pub record IsMarked (bits : ℕ) (words : List ℕ) (views : List MarkView) : Ty
   pub same :
       (seat : ℕ) (v : MarkView) → get_elem? views seat ≡ some v → 0 < v.passes → v.bits ≡ bits
   pub spent :
-      (seat : ℕ) (v : MarkView) → get_elem? views seat ≡ some v → v.passes ≡ 0 → (v.listed ≡ []) × (v.met ≡ [])
+      (seat : ℕ) (v : MarkView) → get_elem? views seat ≡ some v → v.passes ≡ 0
+      → (v.listed ≡ []) × (v.met ≡ [])
   pub listed : (bit : ℕ) → sum_by (λ v. times bit v.listed) views ≡ bit_of words bit
   pub met : (bit : ℕ) → 0 < sum_by (λ v. times bit v.met) views → bit_of words bit ≡ 1
   pub parts : sum_by (λ v. v.passes) views + sum_by (λ v. v.rights) views ≡ 65
