@@ -21,4 +21,5 @@ pub mod Stale
 pub mod Counters
 pub mod Ears
 pub mod Listeners
+pub mod TreeShifts
 pub mod UsedCells
