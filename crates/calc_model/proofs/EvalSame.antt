@@ -4,7 +4,7 @@ use Rattle.std.specs.List.{AllByRecursion, list_all}
 use Rattle.calc_addr.specs.Places.{Place, Rectangle, covers, places}
 use Rattle.calc_addr.specs.References.{here}
 use Rattle.calc_model.specs.declared.value.Value.TheVariants.{Bad}
-use Rattle.calc_model.specs.declared.fault.Fault.TheVariants.{BadValue, Syntax}
+use Rattle.calc_model.specs.declared.fault.Fault.TheVariants.{BadValue}
 use Rattle.std.proofs.lemmas.Bool.Decides.{nat_tests}
 use Rattle.calc_model.specs.declared.tree.Tree.{Tree}
 use Rattle.calc_model.specs.declared.tree.Tree.TheOpen.{Tree-F}
@@ -12,7 +12,8 @@ use Rattle.calc_model.specs.declared.looked.Looked.{Looked}
 use Rattle.calc_model.specs.declared.looked.Looked.TheVariants.{Absent, Gone, At}
 use Rattle.calc_model.specs.Reads.{Names, areas, areas_step, named_areas}
 use Rattle.calc_model.specs.Scalars.{CellValues, scalar_at, if_covered, one_col, one_row}
-use Rattle.calc_model.specs.Eval.{Meaning, meaning, meaning_step, meaning_of_area, meaning_of_name, scalar_alone, binary, eval, is_built, values_in}
+use Rattle.calc_model.specs.Operators.{binary, hundredth, negated}
+use Rattle.calc_model.specs.Eval.{Meaning, meaning, meaning_step, meaning_of_area, meaning_of_name, scalar_alone, eval, values_in}
 use Rattle.calc_model.proofs.Areas.{all_places, both_true}
 use Rattle.calc_model.proofs.TreeFolds as fold
 use Rattle.calc_model.proofs.TreeInduction.{Cases, tree_ind}
@@ -101,8 +102,8 @@ module _ (home : Place) (names : Names) (v w : CellValues) where
     call = λ name args is h. fold.at-Call Meaning one name args ∙ sym (fold.at-Call Meaning two name args);
     paren = λ x is h. fold.at-Paren Meaning one x ∙ is (along (fold.at-Paren (List Rectangle) by x) h) ∙ sym (fold.at-Paren Meaning two x);
     plus = λ x is h. fold.at-Plus Meaning one x ∙ ap (λ (m : Meaning). scalar_alone m.scalar) (is (along (fold.at-Plus (List Rectangle) by x) h)) ∙ sym (fold.at-Plus Meaning two x);
-    minus = λ x is h. fold.at-Minus Meaning one x ∙ sym (fold.at-Minus Meaning two x);
-    percent = λ x is h. fold.at-Percent Meaning one x ∙ sym (fold.at-Percent Meaning two x);
+    minus = λ x is h. fold.at-Minus Meaning one x ∙ ap (λ (m : Meaning). scalar_alone (negated m.scalar)) (is (along (fold.at-Minus (List Rectangle) by x) h)) ∙ sym (fold.at-Minus Meaning two x);
+    percent = λ x is h. fold.at-Percent Meaning one x ∙ ap (λ (m : Meaning). scalar_alone (hundredth m.scalar)) (is (along (fold.at-Percent (List Rectangle) by x) h)) ∙ sym (fold.at-Percent Meaning two x);
     binary = λ op x y is_x is_y h.
         let both : Agree v w (areas home names x ++ areas home names y) = along (fold.at-Binary (List Rectangle) by op x y) h in
         fold.at-Binary Meaning one op x y
@@ -116,4 +117,4 @@ module _ (home : Place) (names : Names) (v w : CellValues) where
   meaning_same = tree_ind Claim cases
 
   pub eval_same : (x : Tree) → Agree v w (areas home names x) → eval home names v x ≡ eval home names w x
-  eval_same x h = ap (λ (m : Meaning). cond (is_built x) m.scalar (Bad Syntax)) (meaning_same x h)
+  eval_same x h = ap (λ (m : Meaning). m.scalar) (meaning_same x h)

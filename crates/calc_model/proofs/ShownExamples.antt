@@ -1,5 +1,5 @@
 -- Worked examples of small books of one row, and what their cells show.
-use Rattle.std.proofs.Common.{◌≡◌, ◌∙◌, ◌+◌, ◌-◌, ◌*◌, ◌^◌, ◌&&◌, not, ℕ, zero, suc, pos, negsuc, Bool, true, false, List, [], ◌∷◌, ◌++◌, ap, arith, codes, map, refl}
+use Rattle.std.proofs.Common.{◌≡◌, ◌∙◌, ◌+◌, ◌-◌, ◌*◌, ◌^◌, ◌&&◌, not, ℕ, zero, suc, pos, negsuc, Bool, true, false, List, [], ◌∷◌, ◌++◌, ap, arith, codes, map, refl, eq-eqb}
 use Rattle.std.specs.Prelude.{◌+ℤ◌}
 use Rattle.std.specs.List.{list_all, flat_map, range_with_len}
 use Rattle.std.specs.Fmt.{digits}
@@ -19,16 +19,16 @@ use Rattle.calc_model.specs.declared.tree.Tree.TheOpen.{Tree-F}
 use Rattle.calc_model.specs.declared.tree.Tree.TheVariants as t
 use Rattle.calc_model.specs.Books.{Book, IsBook, content_at, area_named, formula_count, with_content}
 use Rattle.calc_addr.specs.ValidReferences.{is_valid_reference}
-use Rattle.calc_model.specs.Eval.{top}
+use Rattle.calc_model.specs.Eval.{Meaning, meaning, meaning_step, eval, top}
+use Rattle.calc_model.specs.Operators.{binary}
 use Rattle.calc_model.specs.Formed.{Form, form_of, form_step, is_formed, is_well_formed}
 use Rattle.calc_model.specs.Limits.{Counts, counts_of, counts_step, is_in_limits, is_within}
 use Rattle.calc_model.specs.Grounded.{all_cells, is_grounded, is_circular}
 use Rattle.calc_model.specs.Reads.{Names, areas, areas_step, content_areas}
-use Rattle.calc_model.specs.Scalars.{scalar_at, on_numbers}
+use Rattle.calc_model.specs.Scalars.{CellValues, scalar_at}
 use Rattle.calc_model.specs.Val.{val}
 use Rattle.calc_model.specs.ValueTexts.{text_of}
 use Rattle.calc_model.proofs.TreeFolds as fold
-use Rattle.calc_model.proofs.Building.{eval_sum, scalar_of_one}
 use Rattle.calc_model.proofs.Shown.{shows_its_value, shows_its_circle}
 
 -- an unmarked reference to one cell of the formula's own sheet
@@ -58,7 +58,18 @@ whole n = Number (pos (n * 10 ^ 9))
 
 -- what a sum shows over what its cells show
 abbrev added : Value → Value → Value
-added left right = top (on_numbers (λ n m. checked (n +ℤ m)) left right)
+added left right = top (binary Add left right)
+
+module _ (home : Place) (names : Names) (values : CellValues) where
+  eval_sum : (a b : Reference) → eval home names values (t.Binary Add (t.Ref a) (t.Ref b)) ≡ binary Add (scalar_at (here a home) home values) (scalar_at (here b home) home values)
+  eval_sum a b =
+      ap (λ (m : Meaning). m.scalar) (fold.at-Binary Meaning (meaning_step home names values) Add (t.Ref a) (t.Ref b))
+      ∙ ap (λ (m : Meaning). binary Add m.scalar (meaning home names values (t.Ref b)).scalar) (fold.at-Ref Meaning (meaning_step home names values) a)
+      ∙ ap (λ (m : Meaning). binary Add (scalar_at (here a home) home values) m.scalar) (fold.at-Ref Meaning (meaning_step home names values) b)
+
+-- what a reference to one cell of its own sheet gives is that cell's value
+scalar_of_one : (col home : ℕ) (values : CellValues) → scalar_at (here (cell_reference (at col)) (at home)) (at home) values ≡ values (at col)
+scalar_of_one col home values = rw (eq-eqb col col refl) refl
 
 pub one_place : (col : ℕ) → places (single (at col)) ≡ at col ∷ []
 one_place col =
@@ -75,12 +86,6 @@ areas_of_sum home names p q =
     fold.at-Binary (List Rectangle) (areas_step home names) Add (t.Ref (cell_reference p)) (t.Ref (cell_reference q))
     ∙ ap (λ front. front ++ areas home names (t.Ref (cell_reference q))) (fold.at-Ref (List Rectangle) (areas_step home names) (cell_reference p))
     ∙ ap (λ back. here (cell_reference p) home ∷ back) (fold.at-Ref (List Rectangle) (areas_step home names) (cell_reference q))
-
-one_reference : (col : ℕ) → IsReference (cell_reference (at col))
-one_reference col = record {
-  spanned = record { one_col = refl; one_row = refl; col_marks = refl; row_marks = refl };
-  own_sheet = λ _. refl;
-}
 
 module _ (book : Book) (col left right : ℕ) (holds : content_at book (at col) ≡ sum left right) where
   -- a sum is grounded one round after both of its cells
@@ -99,9 +104,9 @@ module _ (book : Book) (col left right : ℕ) (holds : content_at book (at col) 
       let b = cell_reference (at right) in
       let of_right : Value = scalar_at (here b (at col)) (at col) (val book) in
       shows_its_value book (at col) (sum_of_cells (at left) (at right)) holds free
-      ∙ ap top (eval_sum (at col) (area_named book) (val book) a b refl refl)
-      ∙ ap (λ v. added v of_right) (scalar_of_one a (at col) (val book) (one_reference left) refl)
-      ∙ ap (λ v. added (val book (at left)) v) (scalar_of_one b (at col) (val book) (one_reference right) refl)
+      ∙ ap top (eval_sum (at col) (area_named book) (val book) a b)
+      ∙ ap (λ v. added v of_right) (scalar_of_one left col (val book))
+      ∙ ap (λ v. added (val book (at left)) v) (scalar_of_one right col (val book))
 
   shows_circle : is_circular book (at col) ≡ true → val book (at col) ≡ Bad Circular
   shows_circle circular = shows_its_circle book (at col) (sum_of_cells (at left) (at right)) holds circular

@@ -4,6 +4,7 @@ pub mod Books
 pub mod Reads
 pub mod Grounded
 pub mod Scalars
+pub mod Operators
 pub mod Eval
 pub mod Val
 pub mod FixedPoint

@@ -1,10 +1,14 @@
--- Values in a place that takes one value: coercions, and what a reference gives there.
-use Rattle.std.specs.Prelude.{ℤ, pos, ◌==◌, ◌&&◌, Bool, Result, Ok, Err, if◌then◌else◌}
-use Rattle.calc_num.specs.declared.num.NumFault.{NumFault}
-use Rattle.calc_num.specs.declared.num.NumFault.TheVariants as faults
+-- Values in a place that takes one value: coercions, comparison, and what a reference gives there, after
+-- OpenFormula, 6.2 and 6.3.
+use Rattle.std.specs.Prelude.{ℕ, ℤ, pos, not, ◌==◌, ◌&&◌, Bool, false, List, [], Result, Ok, Err, if◌then◌else◌}
+use Rattle.std.specs.Cmp.Lexicographic.{slice_cmp}
+use Rattle.std.specs.Ordering.{int_cmp, int_eq, nat_cmp}
+use Rattle.std.specs.declared.cmp.Ordering.{Ordering}
+use Rattle.std.specs.declared.cmp.Ordering.TheVariants.{Less, Equal, Greater}
+use Rattle.calc_num.specs.Numbers.{printed}
 use Rattle.calc_addr.specs.Places.{Place, Rectangle, covers}
 use Rattle.calc_model.specs.declared.fault.Fault.{Fault}
-use Rattle.calc_model.specs.declared.fault.Fault.TheVariants.{DivZero, BadValue, BadNum, Over}
+use Rattle.calc_model.specs.declared.fault.Fault.TheVariants.{BadValue}
 use Rattle.calc_model.specs.declared.value.Value.{Value}
 use Rattle.calc_model.specs.declared.value.Value.TheVariants.{Number, Words, Bad, Blank}
 
@@ -19,25 +23,39 @@ number_of (Words text) = Err BadValue
 number_of (Bad fault) = Err fault
 number_of Blank = Ok (pos 0)
 
--- the error value of a decimal operation's fault
-abbrev pub fault_of : NumFault → Fault
-fault_of faults.Over = Over
-fault_of faults.DivZero = DivZero
-fault_of faults.NotNum = BadNum
+-- A text is itself, a number is its printed text, and blank is the empty text. An error is itself.
+abbrev pub words_of : Value → Result (List ℕ) Fault
+words_of (Number n) = Ok (printed n)
+words_of (Words text) = Ok text
+words_of (Bad fault) = Err fault
+words_of Blank = Ok []
 
--- the result of a decimal operation as a value
-abbrev pub value_of : Result ℤ NumFault → Value
-value_of (Ok n) = Number n
-value_of (Err fault) = Bad (fault_of fault)
+-- A number is true where it isn't 0, and blank is false. A text is no logical value, and an error is itself.
+abbrev pub truth_of : Value → Result Bool Fault
+truth_of (Number n) = Ok (not (int_eq n (pos 0)))
+truth_of (Words text) = Err BadValue
+truth_of (Bad fault) = Err fault
+truth_of Blank = Ok false
 
-abbrev pub with_number : Result ℤ Fault → (ℤ → Value) → Value
-with_number (Ok n) next = next n
-with_number (Err fault) next = Bad fault
+-- The order of two values: numbers by value, texts by their bytes, and every number before every text.
+abbrev pub order_of : Value → Value → Result Ordering Fault
+order_of (Bad fault) right = Err fault
+order_of left (Bad fault) = Err fault
+order_of (Number n) (Number m) = Ok (int_cmp n m)
+order_of (Number n) right = Ok Less
+order_of left (Number m) = Ok Greater
+order_of (Words s) (Words t) = Ok (slice_cmp nat_cmp s t)
+order_of left right = Ok Equal
 
--- A decimal operation on two values. The left one is coerced first, and the first error is the result.
-abbrev pub on_numbers : (ℤ → ℤ → Result ℤ NumFault) → Value → Value → Value
-on_numbers operation left right =
-    with_number (number_of left) (λ n. with_number (number_of right) (λ m. value_of (operation n m)))
+-- Blank is the empty text beside a text, and 0 beside anything else.
+abbrev pub beside : Value → Value → Value
+beside (Words text) Blank = Words []
+beside other Blank = Number (pos 0)
+beside other value = value
+
+-- how the left value compares with the right one; the first error is the result
+abbrev pub compared : Value → Value → Result Ordering Fault
+compared left right = order_of (beside right left) (beside left right)
 
 abbrev pub one_col : Rectangle → Bool
 one_col a = a.first_col == a.last_col

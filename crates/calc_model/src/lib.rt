@@ -38,5 +38,5 @@ pub use names::NameTable;
 pub use steps::Steps;
 pub use text::Text;
 pub use tree::{Op, Tree};
-pub use value::{Seen, Value, show, to_number};
+pub use value::{Seen, Value, compare, show, to_logic, to_number, to_text};
 pub use values::{Piece, Values};
