@@ -68,7 +68,7 @@ module _ (home : Place) (names : Names) (v w : CellValues) where
   Claim : Tree → Type 0
   Claim x = Agree v w (areas home names x) → meaning home names v x ≡ meaning home names w x
 
-  area_same : (a : Rectangle) → Agree v w (a ∷ []) → meaning_of_area home names v a ≡ meaning_of_area home names w a
+  area_same : (a : Rectangle) → Agree v w (a ∷ []) → meaning_of_area home v a ≡ meaning_of_area home w a
   area_same a h =
       ap (λ x. record { scalar = x; area = Some (record { area = a; values = values_in v a }) }) (scalar_same v w a home h.0)
       ∙ ap (λ xs. record { scalar = scalar_at a home w; area = Some (record { area = a; values = xs }) }) (values_same v w a h.0)

@@ -31,24 +31,24 @@ pub record Meaning : Type 0 where
 abbrev pub scalar_alone : Value → Meaning
 scalar_alone value = record { scalar = value; area = None }
 
-module _ (home : Place) (names : Names) (values : CellValues) where
-  abbrev pub meaning_of_area : Rectangle → Meaning
-  meaning_of_area area = record {
-    scalar = scalar_at area home values;
-    area = Some (record { area = area; values = values_in values area });
-  }
+abbrev pub meaning_of_area : Place → CellValues → Rectangle → Meaning
+meaning_of_area home values area = record {
+  scalar = scalar_at area home values;
+  area = Some (record { area = area; values = values_in values area });
+}
 
+module _ (home : Place) (names : Names) (values : CellValues) where
   abbrev pub meaning_of_name : Looked → Meaning
   meaning_of_name Absent = scalar_alone (Bad BadName)
   meaning_of_name Gone = scalar_alone (Bad BadRef)
-  meaning_of_name (At area) = meaning_of_area area
+  meaning_of_name (At area) = meaning_of_area home values area
 
   -- the meaning of a node, from those of its children
   abbrev pub meaning_step : Tree-F Meaning → Meaning
   meaning_step (Tree-F.Number n) = scalar_alone (Number n)
   meaning_step (Tree-F.Words text) = scalar_alone (Words text)
   meaning_step (Tree-F.Bad fault) = scalar_alone (Bad fault)
-  meaning_step (Tree-F.Ref reference) = meaning_of_area (here reference home)
+  meaning_step (Tree-F.Ref reference) = meaning_of_area home values (here reference home)
   meaning_step (Tree-F.Name name) = meaning_of_name (names name)
   meaning_step (Tree-F.Paren child) = child
   meaning_step (Tree-F.Plus child) = scalar_alone child.scalar

@@ -1,5 +1,5 @@
 ghost use Rattle.calc_num.specs.Numbers.{printed};
-ghost use Rattle.std.specs.Prelude.{◌≡◌, IfOk, string_bytes};
+ghost use Rattle.std.specs.Prelude.{◌≡◌, [], ◌++◌, IfOk, OnOk, OnErr, string_bytes};
 
 use calc_addr::NoMemory;
 use calc_num::Num;
@@ -29,15 +29,40 @@ impl Text {
         Text { text }
     }
 
+    /// The empty text.
+    pub fn new(alloc: Global) -> Text
+        ensures { result ≡ [] }
+    {
+        Text {
+            text: String::new(alloc),
+        }
+    }
+
     /// The printed text of a number.
-    #[tactic(auto, using(crate::proofs::PrintedAscii::printed_text))]
     pub fn of_number(alloc: Global, number: Num) -> Result<Text, NoMemory>
         ensures { IfOk result (λ t. t ≡ printed number) }
     {
+        let mut text = Text::new(alloc);
+        text.push_number(number)?;
+        Ok(text)
+    }
+
+    /// Appends a text. Where memory is refused, this one is as before.
+    pub fn push_str(&mut self, more: &str) -> Result<(), NoMemory>
+        ensures ok { OnOk result (self.new ≡ self.old ++ more.now) }
+        ensures err { OnErr result (self.new ≡ self.old) }
+    {
+        self.text.push_str(more)
+    }
+
+    /// Appends the printed text of a number. Where memory is refused, this one is as before.
+    #[tactic(auto, using(crate::proofs::PrintedAscii::printed_text))]
+    pub fn push_number(&mut self, number: Num) -> Result<(), NoMemory>
+        ensures ok { OnOk result (self.new ≡ self.old ++ printed number) }
+        ensures err { OnErr result (self.new ≡ self.old) }
+    {
         match str::from_utf8(number.write().bytes()) {
-            Ok(text) => Ok(Text {
-                text: String::from_str(alloc, text)?,
-            }),
+            Ok(text) => self.push_str(text),
             Err(_) => unreachable!(),
         }
     }

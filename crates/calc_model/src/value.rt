@@ -90,7 +90,7 @@ pub fn to_text(alloc: Global, value: &Value) -> Result<Value, NoMemory>
         Value::Number(number) => Ok(Value::Words(Text::of_number(alloc, *number)?)),
         Value::Words(text) => Ok(Value::Words(text.copy(alloc)?)),
         Value::Bad(fault) => Ok(Value::Bad(*fault)),
-        Value::Blank => Ok(Value::Words(Text::of(String::new(alloc)))),
+        Value::Blank => Ok(Value::Words(Text::new(alloc))),
     }
 }
 
