@@ -1,0 +1,5 @@
+//! The value of a formula at its cell: its tokens are run over a stack of operands.
+#![tactic(auto)]
+
+mod operators;
+mod scalar;
