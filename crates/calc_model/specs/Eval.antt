@@ -1,5 +1,5 @@
 -- What a formula gives over the values of a book, after OpenFormula's evaluation of expressions.
-use Rattle.std.specs.Prelude.{pos, List, map, Option, Some, None}
+use Rattle.std.specs.Prelude.{ℕ, pos, List, map, Option, Some, None}
 use Rattle.calc_addr.specs.Places.{Place, Rectangle, places}
 use Rattle.calc_addr.specs.References.{here}
 use Rattle.calc_model.specs.declared.fault.Fault.TheVariants.{BadRef, BadName}
@@ -37,6 +37,10 @@ meaning_of_area home values area = record {
   area = Some (record { area = area; values = values_in values area });
 }
 
+-- What a call at home gives, from its name and the meanings of its parameters. No function is built yet.
+abbrev pub called : Place → List ℕ → List Meaning → Value
+called home name args = Bad BadName
+
 module _ (home : Place) (names : Names) (values : CellValues) where
   abbrev pub meaning_of_name : Looked → Meaning
   meaning_of_name Absent = scalar_alone (Bad BadName)
@@ -55,8 +59,7 @@ module _ (home : Place) (names : Names) (values : CellValues) where
   meaning_step (Tree-F.Minus child) = scalar_alone (negated child.scalar)
   meaning_step (Tree-F.Percent child) = scalar_alone (hundredth child.scalar)
   meaning_step (Tree-F.Binary op left right) = scalar_alone (binary op left.scalar right.scalar)
-  -- no function is built yet
-  meaning_step (Tree-F.Call name args) = scalar_alone (Bad BadName)
+  meaning_step (Tree-F.Call name args) = scalar_alone (called home name args)
 
   abbrev pub meaning : Tree → Meaning
   meaning = fold-Tree Meaning meaning_step
