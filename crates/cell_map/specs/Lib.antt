@@ -1,2 +1,3 @@
 pub mod ResultMap
 pub mod Runs
+pub mod ShownCells

@@ -7,7 +7,9 @@ mod cells;
 mod results;
 mod runs;
 mod show;
+mod values;
 
 pub use cells::CellMap;
 pub use results::ResultMap;
 pub use show::{number_shown, show_cell, shown};
+pub use values::ShownCells;
