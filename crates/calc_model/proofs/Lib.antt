@@ -16,6 +16,7 @@ pub mod Readiness
 mod ShownExamples
 mod StepExamples
 mod StaleExamples
+mod OperatorExamples
 pub mod Reached
 pub mod BooksKept
 pub mod GrammarLevels
