@@ -13,7 +13,8 @@ use Rattle.calc_model.specs.declared.looked.Looked.TheVariants.{Absent, Gone, At
 use Rattle.calc_model.specs.Reads.{Names, areas, areas_step, named_areas}
 use Rattle.calc_model.specs.Scalars.{CellValues, scalar_at, if_covered, one_col, one_row}
 use Rattle.calc_model.specs.Operators.{binary, hundredth, negated}
-use Rattle.calc_model.specs.Eval.{Meaning, meaning, meaning_step, meaning_of_area, meaning_of_name, scalar_alone, eval, values_in}
+use Rattle.calc_model.specs.Meanings.{Meaning, meaning_of_area, scalar_alone, values_in}
+use Rattle.calc_model.specs.Eval.{meaning, meaning_step, meaning_of_name, eval}
 use Rattle.calc_model.proofs.Areas.{all_places, both_true}
 use Rattle.calc_model.proofs.TreeFolds as fold
 use Rattle.calc_model.proofs.TreeInduction.{Cases, tree_ind}

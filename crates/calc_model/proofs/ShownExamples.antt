@@ -19,7 +19,8 @@ use Rattle.calc_model.specs.declared.tree.Tree.TheOpen.{Tree-F}
 use Rattle.calc_model.specs.declared.tree.Tree.TheVariants as t
 use Rattle.calc_model.specs.Books.{Book, IsBook, content_at, area_named, formula_count, with_content}
 use Rattle.calc_addr.specs.ValidReferences.{is_valid_reference}
-use Rattle.calc_model.specs.Eval.{Meaning, meaning, meaning_step, eval, top}
+use Rattle.calc_model.specs.Meanings.{Meaning}
+use Rattle.calc_model.specs.Eval.{meaning, meaning_step, eval, top}
 use Rattle.calc_model.specs.Operators.{binary}
 use Rattle.calc_model.specs.Formed.{Form, form_of, form_step, is_formed, is_well_formed}
 use Rattle.calc_model.specs.Limits.{Counts, counts_of, counts_step, is_in_limits, is_within}

@@ -1,6 +1,6 @@
 -- What a formula gives over the values of a book, after OpenFormula's evaluation of expressions.
-use Rattle.std.specs.Prelude.{ℕ, pos, List, map, Option, Some, None}
-use Rattle.calc_addr.specs.Places.{Place, Rectangle, places}
+use Rattle.std.specs.Prelude.{ℕ, pos, List}
+use Rattle.calc_addr.specs.Places.{Place}
 use Rattle.calc_addr.specs.References.{here}
 use Rattle.calc_model.specs.declared.fault.Fault.TheVariants.{BadRef, BadName}
 use Rattle.calc_model.specs.declared.value.Value.{Value}
@@ -10,36 +10,14 @@ use Rattle.calc_model.specs.declared.looked.Looked.TheVariants.{Absent, Gone, At
 use Rattle.calc_model.specs.declared.tree.Tree.{Tree}
 use Rattle.calc_model.specs.declared.tree.Tree.TheOpen.{Tree-F}
 use Rattle.calc_model.specs.declared.tree.Tree.TheFolds.{fold-Tree}
+use Rattle.calc_model.specs.Meanings.{Meaning, meaning_of_area, scalar_alone}
 use Rattle.calc_model.specs.Operators.{binary, hundredth, negated}
 use Rattle.calc_model.specs.Reads.{Names}
-use Rattle.calc_model.specs.Scalars.{CellValues, scalar_at}
-
--- an area, and the values of its cells in area order
-pub record ValuedArea : Type 0 where
-  pub area : Rectangle
-  pub values : List Value
-
-unfoldable pub values_in : CellValues → Rectangle → List Value
-values_in values area = map values (places area)
-
--- What a part of a formula is to the part around it: the value in a place that takes one value, and
--- the area with its values where the part is a reference, in any number of parentheses.
-pub record Meaning : Type 0 where
-  pub scalar : Value
-  pub area : Option ValuedArea
-
-abbrev pub scalar_alone : Value → Meaning
-scalar_alone value = record { scalar = value; area = None }
-
-abbrev pub meaning_of_area : Place → CellValues → Rectangle → Meaning
-meaning_of_area home values area = record {
-  scalar = scalar_at area home values;
-  area = Some (record { area = area; values = values_in values area });
-}
+use Rattle.calc_model.specs.Scalars.{CellValues}
 
 -- What a call at home gives, from its name and the meanings of its parameters. No function is built yet.
 abbrev pub called : Place → List ℕ → List Meaning → Value
-called home name args = Bad BadName
+called home name parameters = Bad BadName
 
 module _ (home : Place) (names : Names) (values : CellValues) where
   abbrev pub meaning_of_name : Looked → Meaning

@@ -5,6 +5,17 @@ pub mod Reads
 pub mod Grounded
 pub mod Scalars
 pub mod Operators
+pub mod Meanings
+pub mod Parameters
+pub mod Lists
+pub mod Rounding
+pub mod Logic
+pub mod Texts
+pub mod Criteria
+pub mod Statistics
+pub mod Search
+pub mod Lookup
+pub mod Functions
 pub mod Eval
 pub mod Val
 pub mod FixedPoint
@@ -24,3 +35,4 @@ pub mod Ears
 pub mod Listeners
 pub mod TreeShifts
 pub mod UsedCells
+pub mod Arguments

@@ -2,6 +2,7 @@
 //! say what a book means.
 #![tactic(auto)]
 
+mod arg;
 mod code_id;
 mod content;
 mod dependents;
@@ -20,6 +21,7 @@ mod tree;
 mod value;
 mod values;
 
+pub use arg::Arg;
 pub use code_id::CodeId;
 pub use content::{Constant, Content, Formula};
 pub use dependents::{Dependents, Part};

@@ -3,7 +3,8 @@ use Rattle.std.proofs.Common.{◌≡◌, ℕ, ◌+◌, ◌-◌, ◌<◌, ◌≤�
 use Rattle.std.specs.Prelude.{IsSome}
 use Rattle.std.proofs.lemmas.Bool.{le-leb, leb-true}
 use Rattle.calc_addr.specs.Places.{Place}
-use Rattle.calc_model.specs.Eval.{Meaning, called, scalar_alone}
+use Rattle.calc_model.specs.Meanings.{Meaning, scalar_alone}
+use Rattle.calc_model.specs.Eval.{called}
 use Rattle.calc_model.specs.Operators.{binary}
 use Rattle.calc_model.specs.Reads.{Names}
 use Rattle.calc_model.specs.Scalars.{CellValues}

@@ -11,7 +11,8 @@ use Rattle.calc_addr.specs.References.{Reference, here}
 use Rattle.calc_model.specs.declared.tree.Op.{Op}
 use Rattle.calc_model.specs.declared.tree.Tree.{Tree}
 use Rattle.calc_model.specs.declared.tree.Tree.TheVariants as t
-use Rattle.calc_model.specs.Eval.{Meaning, called, meaning, meaning_step, scalar_alone}
+use Rattle.calc_model.specs.Meanings.{Meaning, scalar_alone}
+use Rattle.calc_model.specs.Eval.{called, meaning, meaning_step}
 use Rattle.calc_model.specs.Reads.{Names}
 use Rattle.calc_model.specs.Scalars.{CellValues}
 use Rattle.calc_model.proofs.TreeFolds as fold

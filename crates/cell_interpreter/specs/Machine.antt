@@ -5,7 +5,8 @@ use Rattle.std.specs.Option.{option_and_then}
 use Rattle.calc_addr.specs.Places.{Place}
 use Rattle.calc_addr.specs.References.{here}
 use Rattle.calc_model.specs.declared.value.Value.TheVariants.{Number, Words, Bad}
-use Rattle.calc_model.specs.Eval.{Meaning, called, meaning_of_area, meaning_of_name, scalar_alone}
+use Rattle.calc_model.specs.Meanings.{Meaning, meaning_of_area, scalar_alone}
+use Rattle.calc_model.specs.Eval.{called, meaning_of_name}
 use Rattle.calc_model.specs.Operators.{binary, hundredth, negated}
 use Rattle.calc_model.specs.Reads.{Names}
 use Rattle.calc_model.specs.Scalars.{CellValues}

@@ -1,6 +1,6 @@
 use Rattle.std.proofs.Common.{rules, refl, subst, sym, ap, ◌∙◌, arith}
 use Rattle.calc_model.specs.Books.{entry_named}
-use Rattle.calc_model.specs.Eval.{meaning_of_area, scalar_alone}
+use Rattle.calc_model.specs.Meanings.{meaning_of_area, scalar_alone}
 use Rattle.calc_model.specs.Operators.{hundredth, negated}
 use Rattle.std.specs.Prelude.{Some, ◌∷◌}
 use Rattle.formula_code.specs.Lent.{lent}
