@@ -15,6 +15,7 @@ mod limits;
 mod list;
 mod looked;
 mod names;
+mod scalar;
 mod steps;
 mod text;
 mod tree;
@@ -37,6 +38,7 @@ pub use limits::{
 pub use list::List;
 pub use looked::Looked;
 pub use names::NameTable;
+pub use scalar::scalar_at;
 pub use steps::Steps;
 pub use text::Text;
 pub use tree::{Op, Tree};

@@ -1,7 +1,7 @@
-ghost use Rattle.std.specs.Prelude.{◌≡◌, slice_get};
+ghost use Rattle.std.specs.Prelude.{◌≡◌, length, slice_get};
 ghost use Rattle.calc_addr.specs.Places.{IsRows};
 ghost use Rattle.calc_model.specs.ValueTexts.{lent};
-ghost use Rattle.calc_model.specs.UsedCells.{IsFront, has_circle, used_past};
+ghost use Rattle.calc_model.specs.UsedCells.{IsFront, has_circle, used_past, values_of};
 
 use crate::value::Seen;
 use calc_addr::{Area, Cell};
@@ -15,6 +15,19 @@ pub enum Piece<'a> {
     Blank { count: u32 },
     /// One value of any kind.
     One(Seen<'a>),
+}
+
+impl Piece<'_> {
+    /// How many rows it says.
+    pub fn len(&self) -> usize
+        ensures { result ≡ length (values_of self.now) }
+    {
+        match self {
+            Piece::Small { items } => items.len(),
+            Piece::Blank { count } => *count as usize,
+            Piece::One(_) => 1,
+        }
+    }
 }
 
 /// What the cells of all sheets show, blank where nothing is. Contracts see the value of each cell.

@@ -1,0 +1,8 @@
+//! What functions take of their parameters, and the walk over the cells of areas and the numbers of lists.
+#![tactic(auto)]
+
+mod kinds;
+mod pieces;
+
+pub use kinds::{area, number, truth_value, whole};
+pub use pieces::Pieces;
