@@ -11,6 +11,9 @@ use calc_model::{Arg, Fault, Seen, Text, Value, Values, scalar_at, to_logic, to_
 use calc_num::Num;
 use std::alloc::Global;
 
+/// The raw number of 1.
+const ONE: i128 = 1_000_000_000;
+
 /// The parameter as a number.
 pub fn number<V: Values>(arg: &Arg, home: Cell, values: &V) -> Result<Num, Fault>
     ensures { result ≡ number (meaning_of home (V.values values.now) arg.now) }
@@ -31,7 +34,7 @@ pub fn whole<V: Values>(arg: &Arg, home: Cell, values: &V) -> Result<i64, Fault>
     ensures { result ≡ whole (meaning_of home (V.values values.now) arg.now) }
 {
     match number(arg, home, values) {
-        Ok(number) => Ok((number.raw() / 1_000_000_000) as i64),
+        Ok(number) => Ok((number.raw() / ONE) as i64),
         Err(fault) => Err(fault),
     }
 }

@@ -3,6 +3,8 @@
 
 mod kinds;
 mod pieces;
+mod words;
 
 pub use kinds::{area, number, truth_value, whole};
 pub use pieces::Pieces;
+pub use words::{Words, key, text};

@@ -1,0 +1,2 @@
+-- The nodes of trees.
+use Rattle.std.proofs.Common.{◌≡◌, refl}

@@ -1,0 +1,10 @@
+//! Formulas as arrays of tokens in postfix order, relative to their cell, each form kept once.
+#![tactic(auto)]
+
+mod node;
+mod relative;
+mod token;
+
+pub use node::Node;
+pub use relative::RelativeRef;
+pub use token::{Token, Tokens};
