@@ -1,3 +1,5 @@
 -- Columns: what is left of an area behind some rows of a column. Cutting: a piece from the front of what is left.
+-- Tallying: numbers that are taken one after the other.
 pub mod Columns
 pub mod Cutting
+pub mod Tallying

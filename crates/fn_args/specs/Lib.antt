@@ -1,3 +1,4 @@
 pub mod Kinds
 pub mod Pieces
 pub mod Lent
+pub mod Tallies

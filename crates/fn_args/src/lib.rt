@@ -3,8 +3,10 @@
 
 mod kinds;
 mod pieces;
+mod tally;
 mod words;
 
 pub use kinds::{area, number, truth_value, whole};
 pub use pieces::Pieces;
+pub use tally::{Tally, tally_list};
 pub use words::{Words, key, text};

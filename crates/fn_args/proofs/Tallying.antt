@@ -1,0 +1,182 @@
+-- Numbers that are taken one after the other.
+use Rattle.std.proofs.Common.{◌≡◌, ℕ, ℤ, zero, suc, ◌+◌, ◌-◌, ◌≤◌, ◌<◌, List, [], ◌∷◌, ◌++◌, drop, get_or, length, map, replicate, ap, sym, subst, refl, ◌∙◌, arith, append_assoc, Ok, Err}
+use Rattle.std.specs.Prelude.{Result, fold}
+use Rattle.std.specs.List.{flat_map}
+use Rattle.std.proofs.lemmas.Grind.{flat_map-append}
+use Rattle.std.proofs.lemmas.List.Sums.{fold-append}
+use Rattle.std.proofs.lemmas.List.{length-append, append-nil, drop_all}
+use Rattle.std.proofs.lemmas.List.Folds.{flat_map-map}
+use Rattle.std.proofs.Math.Seq.{drop-cons}
+use Rattle.calc_addr.specs.Places.{Place}
+use Rattle.calc_model.specs.Arguments.{meaning_of, meanings_of}
+use Rattle.calc_model.specs.Meanings.{Meaning, values_in}
+use Rattle.calc_model.specs.Scalars.{CellValues}
+use Rattle.calc_model.specs.declared.arg.Arg.{Arg}
+use Rattle.calc_model.specs.declared.arg.Arg.TheVariants as arg
+use Rattle.calc_model.specs.declared.fault.Fault.{Fault}
+use Rattle.calc_model.specs.declared.value.Value.{Value}
+use Rattle.calc_model.specs.declared.value.Value.TheVariants.{Number, Words, Bad, Blank}
+use Rattle.calc_model.specs.Lists.{number_in_cell, number_of_scalar, numbers, numbers_in}
+use Rattle.calc_model.specs.Parameters.{all_ok, and_then}
+use Rattle.fn_args.specs.Tallies.{IsTallied, numbers_in_cells, numbers_of_arg, numbers_of_args, value_count, values_of_arg}
+
+abbrev Numbers : Type 0
+Numbers = List (Result ℤ Fault)
+
+abbrev Same : Result (List ℤ) Fault → Result (List ℤ) Fault → Type 0
+Same r s = r ≡ s
+
+inside : {a b : List ℤ} → Same (Ok a) (Ok b) → a ≡ b
+inside e = cc
+
+apart : {a : List ℤ} {fault : Fault} → Same (Ok a) (Err fault) → ⊥
+apart e = cc
+
+-- some numbers, and then the others or their first error
+abbrev pub after : List ℤ → Result (List ℤ) Fault → Result (List ℤ) Fault
+after ns (Ok ms) = Ok (ns ++ ms)
+after ns (Err fault) = Err fault
+
+after-none : (r : Result (List ℤ) Fault) → after [] r ≡ r
+after-none (Ok ms) = refl
+after-none (Err fault) = refl
+
+and_then-after : (n : ℤ) (ns : List ℤ) (r : Result (List ℤ) Fault) → and_then n (after ns r) ≡ after (n ∷ ns) r
+and_then-after n ns (Ok ms) = refl
+and_then-after n ns (Err fault) = refl
+
+after-after : (ns ms : List ℤ) (r : Result (List ℤ) Fault) → after ns (after ms r) ≡ after (ns ++ ms) r
+after-after ns ms (Ok ks) = ap Ok (sym (append_assoc ns ms ks))
+after-after ns ms (Err fault) = refl
+
+cut_off : (n : ℤ) (xs : Numbers) (fault : Fault) → and_then n (all_ok xs) ≡ Err fault → all_ok xs ≡ Err fault
+cut_off n xs fault e = elim (all_ok xs) as (λ r. and_then n r ≡ Err fault → r ≡ Err fault) [ Ok ns ↦ λ h. absurd (apart h) | Err f ↦ λ h. h ] e
+
+tail_of : (n : ℤ) (xs : Numbers) (ms : List ℤ) → and_then n (all_ok xs) ≡ Ok ms → (ns : List ℤ) × (all_ok xs ≡ Ok ns) × (ms ≡ n ∷ ns)
+tail_of n xs ms e = elim (all_ok xs) as (λ r. and_then n r ≡ Ok ms → (ns : List ℤ) × (r ≡ Ok ns) × (ms ≡ n ∷ ns)) [ Ok ns ↦ λ h. (ns, refl, sym (inside h)) | Err f ↦ λ h. absurd (apart (sym h)) ] e
+
+-- numbers before others
+pub all_ok-before : (xs ys : Numbers) (ns : List ℤ) → all_ok xs ≡ Ok ns → all_ok (xs ++ ys) ≡ after ns (all_ok ys)
+all_ok-before [] ys ns e = sym (after-none (all_ok ys)) ∙ ap (λ ms. after ms (all_ok ys)) (inside e)
+all_ok-before (Ok n ∷ xs) ys ns e =
+    let t = tail_of n xs ns e in
+    ap (and_then n) (all_ok-before xs ys t.0 t.1) ∙ and_then-after n t.0 (all_ok ys) ∙ ap (λ ms. after ms (all_ok ys)) (sym t.2)
+all_ok-before (Err fault ∷ xs) ys ns e = absurd (apart (sym e))
+
+-- an error before others is the first
+pub all_ok-error : (xs ys : Numbers) (fault : Fault) → all_ok xs ≡ Err fault → all_ok (xs ++ ys) ≡ Err fault
+all_ok-error [] ys fault e = absurd (apart e)
+all_ok-error (Ok n ∷ xs) ys fault e = ap (and_then n) (all_ok-error xs ys fault (cut_off n xs fault e))
+all_ok-error (Err f ∷ xs) ys fault e = e
+
+pub length-all_ok : (xs : Numbers) (ns : List ℤ) → all_ok xs ≡ Ok ns → length ns ≡ length xs
+length-all_ok [] ns e = ap length (sym (inside e))
+length-all_ok (Ok n ∷ xs) ns e =
+    let t = tail_of n xs ns e in
+    ap length t.2 ∙ omega (arith, length-all_ok xs t.0 t.1)
+length-all_ok (Err f ∷ xs) ns e = absurd (apart (sym e))
+
+pub length-cells : (values : List Value) → length (numbers_in_cells values) ≤ length values
+unfolding numbers_in_cells
+length-cells [] = omega arith
+length-cells (Number n ∷ vs) = omega (arith, length-cells vs)
+length-cells (Words text ∷ vs) = omega (arith, length-cells vs)
+length-cells (Bad fault ∷ vs) = omega (arith, length-cells vs)
+length-cells (Blank ∷ vs) = omega (arith, length-cells vs)
+
+-- the numbers of cells that are all numbers, and of blank ones
+pub all_numbers : (ns : List ℤ) → all_ok (numbers_in_cells (map Number ns)) ≡ Ok ns
+unfolding numbers_in_cells
+all_numbers [] = refl
+all_numbers (n ∷ ns) = ap (and_then n) (all_numbers ns)
+
+pub no_numbers : (count : ℕ) → all_ok (numbers_in_cells (replicate count Blank)) ≡ Ok []
+unfolding numbers_in_cells
+no_numbers zero = refl
+no_numbers (suc count) = no_numbers count
+
+-- What a loop over values keeps: the numbers so far were taken, and there is room for all that is left.
+pub record IsUnderWay {S : Type 0} (step : S → ℤ → S) (room : S → ℕ → Type 0) (first : S) (all rest : Numbers) (size : ℕ) (now : S) : Type 0 where
+  pub taken : List ℤ
+  pub numbers : all_ok all ≡ after taken (all_ok rest)
+  pub state : now ≡ fold step first taken
+  pub left : room now size
+
+module _ {S : Type 0} (step : S → ℤ → S) (room : S → ℕ → Type 0) (room_left : (s : S) (n : ℤ) (k : ℕ) → room s (1 + k) → room (step s n) k) (room_before : (s : S) (j k : ℕ) → room s (j + k) → room s j) where
+  room_after : (ns : List ℤ) (s : S) (k : ℕ) → room s (length ns + k) → room (fold step s ns) k
+  room_after [] s k h = subst (room s) (omega arith) h
+  room_after (n ∷ ns) s k h =
+      let e : suc (length ns) + k ≡ 1 + (length ns + k) = omega arith in
+      room_after ns (step s n) k (room_left s n (length ns + k) (subst (room s) e h))
+
+  pub begins : (first : S) (all : Numbers) (size : ℕ) → room first size → IsUnderWay step room first all all size first
+  begins first all size h = record { taken = []; numbers = sym (after-none (all_ok all)); state = refl; left = h }
+
+  room_for : (s : S) (j n : ℕ) → j ≤ n → room s n → room s j
+  room_for s j n h = λ r. room_before s j (n - j) (subst (room s) (omega (arith, h)) r)
+
+  module _ (first : S) (all front more rest : Numbers) (size n k : ℕ) (now new : S) (split : rest ≡ front ++ more) (sizes : size ≡ n + k) (h : IsUnderWay step room first all rest size now) where
+    pub room_here : room now n
+    room_here = room_before now n k (subst (room now) sizes h.left)
+
+    pub goes_on : (ns : List ℤ) → length front ≤ n → all_ok front ≡ Ok ns → new ≡ fold step now ns → IsUnderWay step room first all more k new
+    goes_on ns short ok is = record {
+      taken = h.taken ++ ns;
+      numbers = h.numbers ∙ ap (λ xs. after h.taken (all_ok xs)) split ∙ ap (after h.taken) (all_ok-before front more ns ok) ∙ after-after h.taken ns (all_ok more);
+      state = is ∙ ap (λ s. fold step s ns) h.state ∙ sym (fold-append step first h.taken ns);
+      left = subst (λ s. room s k) (sym is) (room_after ns now k (room_for now (length ns + k) size (omega (arith, sizes, short, length-all_ok front ns ok)) h.left));
+    }
+
+    pub stops : (fault : Fault) → all_ok front ≡ Err fault → all_ok all ≡ Err fault
+    stops fault bad = h.numbers ∙ ap (λ xs. after h.taken (all_ok xs)) split ∙ ap (after h.taken) (all_ok-error front more fault bad)
+
+  pub ends : (first : S) (all rest : Numbers) (size : ℕ) (now : S) → rest ≡ [] → IsUnderWay step room first all rest size now → (ns : List ℤ) × (all_ok all ≡ Ok ns) × (now ≡ fold step first ns)
+  ends first all rest size now none h = (h.taken, h.numbers ∙ ap (λ xs. after h.taken (all_ok xs)) none ∙ ap Ok (append-nil h.taken), h.state)
+
+pub one_cell : (value : Value) → numbers_in_cells (value ∷ []) ≡ number_in_cell value
+unfolding numbers_in_cells
+one_cell value = append-nil (number_in_cell value)
+
+pub numbers-before : (front more : List Value) → numbers_in_cells (front ++ more) ≡ numbers_in_cells front ++ numbers_in_cells more
+unfolding numbers_in_cells
+numbers-before front more = flat_map-append number_in_cell front more
+
+-- the parameters from one of them on
+module _ (v : CellValues) (args : List Arg) (i : ℕ) (x : Arg) (inside_list : i < length args) (is : x ≡ get_or args i x) where
+  next_index : x ∷ drop (suc i) args ≡ x ∷ drop (i + 1) args
+  next_index =
+      let e : suc i ≡ i + 1 = omega arith in
+      ap (λ k. x ∷ drop k args) e
+
+  first_arg : drop i args ≡ x ∷ drop (i + 1) args
+  first_arg = drop-cons args i x inside_list ∙ ap (λ y. y ∷ drop (suc i) args) (sym is) ∙ next_index
+
+  pub numbers-first : numbers_of_args v (drop i args) ≡ numbers_of_arg v x ++ numbers_of_args v (drop (i + 1) args)
+  unfolding numbers_of_args
+  numbers-first = ap (flat_map (numbers_of_arg v)) first_arg
+
+  pub count-first : value_count v (drop i args) ≡ length (values_of_arg v x) + value_count v (drop (i + 1) args)
+  unfolding value_count
+  count-first = ap (λ xs. length (flat_map (values_of_arg v) xs)) first_arg ∙ length-append (values_of_arg v x) (flat_map (values_of_arg v) (drop (i + 1) args))
+
+pub length-arg : (v : CellValues) (x : Arg) → length (numbers_of_arg v x) ≤ length (values_of_arg v x)
+length-arg v (arg.Scalar (Number n)) = omega arith
+length-arg v (arg.Scalar (Words text)) = omega arith
+length-arg v (arg.Scalar (Bad fault)) = omega arith
+length-arg v (arg.Scalar Blank) = omega arith
+length-arg v (arg.Area area) = length-cells (values_in v area)
+
+pub no_args : (v : CellValues) (args : List Arg) (i : ℕ) → length args ≤ i → numbers_of_args v (drop i args) ≡ []
+unfolding numbers_of_args
+no_args v args i h = ap (flat_map (numbers_of_arg v)) (drop_all i args h)
+
+same-numbers : (home : Place) (v : CellValues) (args : List Arg) → flat_map (λ x. numbers_in (meaning_of home v x).scalar (meaning_of home v x).area) args ≡ flat_map (numbers_of_arg v) args
+unfolding numbers_in_cells
+same-numbers home v [] = refl
+same-numbers home v (arg.Scalar value ∷ rest) = ap (λ xs. number_of_scalar value ++ xs) (same-numbers home v rest)
+same-numbers home v (arg.Area area ∷ rest) = ap (λ xs. flat_map number_in_cell (values_in v area) ++ xs) (same-numbers home v rest)
+
+-- the numbers are those of calc_model's lists
+pub numbers-are : (home : Place) (v : CellValues) (args : List Arg) → numbers (meanings_of home v args) ≡ all_ok (numbers_of_args v args)
+unfolding numbers numbers_of_args
+numbers-are home v args = ap all_ok (flat_map-map (λ (p : Meaning). numbers_in p.scalar p.area) (meaning_of home v) args ∙ same-numbers home v args)

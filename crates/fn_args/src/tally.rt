@@ -1,0 +1,119 @@
+ghost use Rattle.std.specs.Prelude.{◌≡◌, ◌+◌, length};
+ghost use Rattle.calc_model.specs.Lists.{number_in_cell, number_of_scalar};
+ghost use Rattle.calc_model.specs.Meanings.{values_in};
+ghost use Rattle.calc_model.specs.UsedCells.{values_of};
+ghost use Rattle.calc_model.specs.ValueTexts.{lent};
+ghost use Rattle.fn_args.specs.Tallies.{IsTallied, numbers_in_cells, numbers_of_arg, numbers_of_args, value_count, values_of_arg};
+
+use crate::pieces::Pieces;
+use calc_addr::Area;
+use calc_model::{Arg, Fault, Piece, Seen, Value, Values};
+use calc_num::Num;
+
+/// What takes the numbers of a list one after the other. Contracts see the state after each number, and for
+/// how many more there is room.
+pub trait Tally {
+    ghost use Rattle.std.specs.Prelude.{◌≡◌, ◌+◌, ℕ, ℤ, fold, length};
+
+    ghost step: { Self → ℤ → Self };
+
+    ghost room: { Self → ℕ → Type 0 };
+
+    /// Takes one number.
+    fn take(&mut self, number: Num)
+        requires { room self.old 1 }
+        ensures { self.new ≡ step self.old number };
+
+    /// Takes the numbers with these raw numbers.
+    fn take_small(&mut self, items: &[i64])
+        requires { room self.old (length items.now) }
+        ensures { self.new ≡ fold step self.old items.now };
+
+    ghost room_left: { (s : Self) (n : ℤ) (k : ℕ) → room s (1 + k) → room (step s n) k };
+
+    ghost room_before: { (s : Self) (j k : ℕ) → room s (j + k) → room s j };
+}
+
+/// Gives a tally the numbers of a list, up to the first error: a text in a cell and a blank value are passed
+/// over, a text that is no cell's is no number.
+pub fn tally_list<V: Values, T: Tally>(args: &[Arg], values: &V, taker: &mut T) -> Result<(), Fault>
+    requires { T.room taker.old (value_count (V.values values.now) args.now) }
+    ensures { IsTallied T.step taker.old (numbers_of_args (V.values values.now) args.now)
+        taker.new result }
+{
+    for arg in args {
+        tally_arg(arg, values, taker)?;
+    }
+    Ok(())
+}
+
+/// Gives a tally the numbers of a parameter.
+fn tally_arg<V: Values, T: Tally>(arg: &Arg, values: &V, taker: &mut T) -> Result<(), Fault>
+    requires { T.room taker.old (length (values_of_arg (V.values values.now) arg.now)) }
+    ensures { IsTallied T.step taker.old (numbers_of_arg (V.values values.now) arg.now)
+        taker.new result }
+{
+    match arg {
+        Arg::Scalar(value) => tally_scalar(value, taker),
+        Arg::Area(area) => tally_area(*area, values, taker),
+    }
+}
+
+/// Gives a tally the number of a value that is no cell's.
+fn tally_scalar<T: Tally>(value: &Value, taker: &mut T) -> Result<(), Fault>
+    requires { T.room taker.old 1 }
+    ensures { IsTallied T.step taker.old (number_of_scalar value.now) taker.new result }
+{
+    match value {
+        Value::Number(number) => {
+            taker.take(*number);
+            Ok(())
+        }
+        Value::Words(_) => Err(Fault::BadValue),
+        Value::Bad(fault) => Err(*fault),
+        Value::Blank => Ok(()),
+    }
+}
+
+/// Gives a tally the numbers of an area's cells, up to the first error.
+fn tally_area<V: Values, T: Tally>(area: Area, values: &V, taker: &mut T) -> Result<(), Fault>
+    requires { T.room taker.old (length (values_in (V.values values.now) area)) }
+    ensures { IsTallied T.step taker.old
+        (numbers_in_cells (values_in (V.values values.now) area)) taker.new result }
+{
+    for piece in Pieces::of(area, values) {
+        tally_piece(&piece, taker)?;
+    }
+    Ok(())
+}
+
+/// Gives a tally the numbers of a piece.
+fn tally_piece<T: Tally>(piece: &Piece<'_>, taker: &mut T) -> Result<(), Fault>
+    requires { T.room taker.old (length (values_of piece.now)) }
+    ensures { IsTallied T.step taker.old (numbers_in_cells (values_of piece.now)) taker.new result }
+{
+    match piece {
+        Piece::Small { items } => {
+            taker.take_small(items);
+            Ok(())
+        }
+        Piece::Blank { .. } => Ok(()),
+        Piece::One(seen) => tally_cell(seen, taker),
+    }
+}
+
+/// Gives a tally the number of a cell.
+fn tally_cell<T: Tally>(seen: &Seen<'_>, taker: &mut T) -> Result<(), Fault>
+    requires { T.room taker.old 1 }
+    ensures { IsTallied T.step taker.old (number_in_cell (lent seen.now)) taker.new result }
+{
+    match seen {
+        Seen::Number(number) => {
+            taker.take(*number);
+            Ok(())
+        }
+        Seen::Words(_text) => Ok(()),
+        Seen::Bad(fault) => Err(*fault),
+        Seen::Blank => Ok(()),
+    }
+}
