@@ -1,11 +1,13 @@
 //! What functions take of their parameters, and the walk over the cells of areas and the numbers of lists.
 #![tactic(auto)]
 
+mod answers;
 mod kinds;
 mod pieces;
 mod tally;
 mod words;
 
+pub use answers::{copied, counted, scalar, truth, value_of};
 pub use kinds::{area, number, truth_value, whole};
 pub use pieces::Pieces;
 pub use tally::{Tally, tally_list};
