@@ -1,0 +1,2 @@
+-- OneOrTwo: functions of one or two numbers, by those.
+pub mod OneOrTwo
