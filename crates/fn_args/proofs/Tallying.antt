@@ -10,6 +10,7 @@ use Rattle.std.proofs.Math.Seq.{drop-cons}
 use Rattle.calc_addr.specs.Places.{Place}
 use Rattle.calc_model.specs.Arguments.{meaning_of, meanings_of}
 use Rattle.calc_model.specs.Meanings.{Meaning, values_in}
+use Rattle.calc_model.specs.Operators.{from_ok}
 use Rattle.calc_model.specs.Scalars.{CellValues}
 use Rattle.calc_model.specs.declared.arg.Arg.{Arg}
 use Rattle.calc_model.specs.declared.arg.Arg.TheVariants as arg
@@ -18,7 +19,7 @@ use Rattle.calc_model.specs.declared.value.Value.{Value}
 use Rattle.calc_model.specs.declared.value.Value.TheVariants.{Number, Words, Bad, Blank}
 use Rattle.calc_model.specs.Lists.{number_in_cell, number_of_scalar, numbers, numbers_in}
 use Rattle.calc_model.specs.Parameters.{all_ok, and_then}
-use Rattle.fn_args.specs.Tallies.{IsTallied, numbers_in_cells, numbers_of_arg, numbers_of_args, value_count, values_of_arg}
+use Rattle.fn_args.specs.Tallies.{numbers_in_cells, numbers_of_arg, numbers_of_args, value_count, values_of_arg}
 
 abbrev Numbers : Type 0
 Numbers = List (Result ℤ Fault)
@@ -180,3 +181,10 @@ same-numbers home v (arg.Area area ∷ rest) = ap (λ xs. flat_map number_in_cel
 pub numbers-are : (home : Place) (v : CellValues) (args : List Arg) → numbers (meanings_of home v args) ≡ all_ok (numbers_of_args v args)
 unfolding numbers numbers_of_args
 numbers-are home v args = ap all_ok (flat_map-map (λ (p : Meaning). numbers_in p.scalar p.area) (meaning_of home v) args ∙ same-numbers home v args)
+
+-- what comes of the numbers of a list, or of its first error
+pub from_numbers : (home : Place) (v : CellValues) (args : List Arg) (next : List ℤ → Value) (ns : List ℤ) → all_ok (numbers_of_args v args) ≡ Ok ns → from_ok (numbers (meanings_of home v args)) next ≡ next ns
+from_numbers home v args next ns e = ap (λ r. from_ok r next) (numbers-are home v args ∙ e)
+
+pub from_fault : (home : Place) (v : CellValues) (args : List Arg) (next : List ℤ → Value) (fault : Fault) → all_ok (numbers_of_args v args) ≡ Err fault → from_ok (numbers (meanings_of home v args)) next ≡ Bad fault
+from_fault home v args next fault e = ap (λ r. from_ok r next) (numbers-are home v args ∙ e)

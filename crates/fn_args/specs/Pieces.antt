@@ -1,5 +1,5 @@
 -- Walking the values of an area piece by piece.
-use Rattle.std.specs.Prelude.{◌≡◌, ◌≤◌, ℕ, List, [], ◌++◌, drop, length, Option, Some, None}
+use Rattle.std.specs.Prelude.{◌≡◌, ◌≤◌, ℕ, List, [], ◌++◌, drop, length, Option, Some}
 use Rattle.std.specs.Option.{MatchOption}
 use Rattle.calc_addr.specs.Places.{IsInArea, Place, Rectangle, Rows, places_from}
 use Rattle.calc_model.specs.declared.value.Value.{Value}

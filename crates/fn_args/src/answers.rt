@@ -69,3 +69,11 @@ pub fn copied(alloc: Global, seen: &Seen<'_>) -> Result<Value, NoMemory>
         Seen::Blank => Ok(Value::Blank),
     }
 }
+
+/// The parameter's value in such a place, as one of its own.
+pub fn value<V: Values>(alloc: Global, arg: &Arg, home: Cell, values: &V) -> Result<Value, NoMemory>
+    ensures { IfOk result (λ value.
+        value ≡ (meaning_of home (V.values values.now) arg.now).scalar) }
+{
+    copied(alloc, &scalar(arg, home, values))
+}

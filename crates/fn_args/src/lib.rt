@@ -7,7 +7,7 @@ mod pieces;
 mod tally;
 mod words;
 
-pub use answers::{copied, counted, scalar, truth, value_of};
+pub use answers::{copied, counted, scalar, truth, value, value_of};
 pub use kinds::{area, number, truth_value, whole};
 pub use pieces::Pieces;
 pub use tally::{Tally, tally_list};

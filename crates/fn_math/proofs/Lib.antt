@@ -1,2 +1,3 @@
--- OneOrTwo: functions of one or two numbers, by those.
+-- OneOrTwo: functions of one or two numbers, by those. Tests: AND and OR by what is known of a list.
 pub mod OneOrTwo
+pub mod Tests

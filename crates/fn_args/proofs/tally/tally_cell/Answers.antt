@@ -1,4 +1,4 @@
-use Rattle.std.proofs.Common.{refl, ap, ◌∙◌, ◌∷◌, []}
+use Rattle.std.proofs.Common.{ap, ◌∷◌, []}
 use Rattle.calc_model.specs.Lists.{number_in_cell}
 use Rattle.calc_model.specs.Parameters.{all_ok}
 use Rattle.calc_model.specs.ValueTexts.{lent}

@@ -1,5 +1,5 @@
-use Rattle.std.proofs.Common.{ap, sym, ◌∙◌, ◌+◌, drop, length, rules, arith}
-use Rattle.fn_args.specs.Tallies.{numbers_of_arg, numbers_of_args, value_count, values_of_arg}
+use Rattle.std.proofs.Common.{◌+◌, drop, rules, arith}
+use Rattle.fn_args.specs.Tallies.{numbers_of_arg, numbers_of_args, value_count}
 use Rattle.fn_args.proofs.Tallying.{begins, count-first, ends, goes_on, length-arg, no_args, numbers-first, room_here, stops}
 use Rattle.fn_args.proofs.tally.tally_list.Goals as goal
 
@@ -22,7 +22,7 @@ returns-in_err-tally_arg g c =
     let x = c.arg-item.result in
     let i = c.loop-arg.arg-index in
     let bad = stops g.T.Tally.step g.T.Tally.room g.met.T.Tally.room_left g.met.T.Tally.room_before _ _ (numbers_of_arg v x) (numbers_of_args v (drop (i + 1) c.args.args.now)) _ _ _ _ c.loop-arg.taker c.loop-arg.taker
-        (numbers-first v c.args.args.now i x c.loop-arg-test.true c.arg-item.is) (count-first v c.args.args.now i x c.loop-arg-test.true c.arg-item.is) c.loop-arg.invariant c.in_err-tally_arg.field-0.0 (c.in_err-tally_arg.ensures {u = tt}) in
+    (numbers-first v c.args.args.now i x c.loop-arg-test.true c.arg-item.is) (count-first v c.args.args.now i x c.loop-arg-test.true c.arg-item.is) c.loop-arg.invariant c.in_err-tally_arg.field-0.0 (c.in_err-tally_arg.ensures {u = tt}) in
     search (rules, bad)
 
 pub loop-arg-preserved : goal.loop-arg-preserved

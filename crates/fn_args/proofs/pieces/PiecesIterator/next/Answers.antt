@@ -1,5 +1,5 @@
-use Rattle.std.proofs.Common.{refl, sym, subst, ap, ◌∙◌, ◌≤◌, ◌+◌, ◌-◌, ◌≡◌, true, map, Some, arith}
-use Rattle.calc_addr.specs.Places.{IsInArea, covers, places_from}
+use Rattle.std.proofs.Common.{refl, sym, subst, ap, ◌∙◌, ◌≤◌, ◌+◌, ◌-◌, map}
+use Rattle.calc_addr.specs.Places.{IsInArea, places_from}
 use Rattle.fn_args.proofs.Cutting.{cut_step, fits, shorter}
 use Rattle.fn_args.proofs.pieces.PiecesIterator.next.Goals as goal
 
