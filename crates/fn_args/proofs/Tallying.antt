@@ -1,13 +1,15 @@
 -- Numbers that are taken one after the other.
-use Rattle.std.proofs.Common.{◌≡◌, ℕ, ℤ, zero, suc, ◌+◌, ◌-◌, ◌≤◌, ◌<◌, List, [], ◌∷◌, ◌++◌, drop, get_or, length, map, replicate, ap, sym, subst, refl, ◌∙◌, arith, append_assoc, Ok, Err}
+use Rattle.std.proofs.Common.{◌≡◌, ℕ, ℤ, zero, suc, ◌+◌, ◌-◌, ◌*◌, ◌≤◌, ◌<◌, List, [], ◌∷◌, ◌++◌, drop, get_or, length, map, replicate, ap, sym, subst, refl, ◌∙◌, arith, append_assoc, Ok, Err}
 use Rattle.std.specs.Prelude.{Result, fold}
 use Rattle.std.specs.List.{flat_map}
 use Rattle.std.proofs.lemmas.Grind.{flat_map-append}
 use Rattle.std.proofs.lemmas.List.Sums.{fold-append}
-use Rattle.std.proofs.lemmas.List.{length-append, append-nil, drop_all}
+use Rattle.std.proofs.lemmas.List.{length-append, length-drop, length-map, append-nil, drop_all}
+use Rattle.std.proofs.Math.Nat.{mul-le-mul_right}
+use Rattle.calc_addr.proofs.Walking.Places.{length-places}
 use Rattle.std.proofs.lemmas.List.Folds.{flat_map-map}
 use Rattle.std.proofs.Math.Seq.{drop-cons}
-use Rattle.calc_addr.specs.Places.{Place}
+use Rattle.calc_addr.specs.Places.{IsRectangle, Place, Rectangle, cell_count, places}
 use Rattle.calc_model.specs.Arguments.{meaning_of, meanings_of}
 use Rattle.calc_model.specs.Meanings.{Meaning, values_in}
 use Rattle.calc_model.specs.Operators.{from_ok}
@@ -19,7 +21,7 @@ use Rattle.calc_model.specs.declared.value.Value.{Value}
 use Rattle.calc_model.specs.declared.value.Value.TheVariants.{Number, Words, Bad, Blank}
 use Rattle.calc_model.specs.Lists.{number_in_cell, number_of_scalar, numbers, numbers_in}
 use Rattle.calc_model.specs.Parameters.{all_ok, and_then}
-use Rattle.fn_args.specs.Tallies.{numbers_in_cells, numbers_of_arg, numbers_of_args, value_count, values_of_arg}
+use Rattle.fn_args.specs.Tallies.{numbers_in_cells, numbers_of_arg, numbers_of_args, MOST_IN_AREA}
 
 abbrev Numbers : Type 0
 Numbers = List (Result ℤ Fault)
@@ -156,16 +158,25 @@ module _ (v : CellValues) (args : List Arg) (i : ℕ) (x : Arg) (inside_list : i
   unfolding numbers_of_args
   numbers-first = ap (flat_map (numbers_of_arg v)) first_arg
 
-  pub count-first : value_count v (drop i args) ≡ length (values_of_arg v x) + value_count v (drop (i + 1) args)
-  unfolding value_count
-  count-first = ap (λ xs. length (flat_map (values_of_arg v) xs)) first_arg ∙ length-append (values_of_arg v x) (flat_map (values_of_arg v) (drop (i + 1) args))
+pub count-left : {X : Type 0} (xs : List X) (i : ℕ) → i < length xs → length (drop i xs) * MOST_IN_AREA ≡ MOST_IN_AREA + length (drop (i + 1) xs) * MOST_IN_AREA
+count-left xs i h = omega (arith, h, length-drop i xs, length-drop (i + 1) xs)
 
-pub length-arg : (v : CellValues) (x : Arg) → length (numbers_of_arg v x) ≤ length (values_of_arg v x)
-length-arg v (arg.Scalar (Number n)) = omega arith
-length-arg v (arg.Scalar (Words text)) = omega arith
-length-arg v (arg.Scalar (Bad fault)) = omega arith
-length-arg v (arg.Scalar Blank) = omega arith
-length-arg v (arg.Area area) = length-cells (values_in v area)
+pub few_cells : (v : CellValues) (a : Rectangle) → IsRectangle a → length (values_in v a) ≤ MOST_IN_AREA
+unfolding values_in
+few_cells v a in_sheet =
+    let count = length-map (places a) v ∙ length-places a in
+    let cols : a.last_col + 1 - a.first_col ≤ 1024 = omega (arith, in_sheet.cols_from, in_sheet.cols_to) in
+    let rows : a.last_row + 1 - a.first_row ≤ 1048576 = omega (arith, in_sheet.rows_from, in_sheet.rows_to) in
+    omega (arith, count, mul-le-mul_right (a.last_row + 1 - a.first_row) cols, rows)
+
+pub few_in_area : (v : CellValues) (a : Rectangle) → IsRectangle a → length (numbers_in_cells (values_in v a)) ≤ MOST_IN_AREA
+few_in_area v a in_sheet = omega (arith, length-cells (values_in v a), few_cells v a in_sheet)
+
+pub few_scalars : (value : Value) → length (number_of_scalar value) ≤ MOST_IN_AREA
+few_scalars (Number n) = omega arith
+few_scalars (Words text) = omega arith
+few_scalars (Bad fault) = omega arith
+few_scalars Blank = omega arith
 
 pub no_args : (v : CellValues) (args : List Arg) (i : ℕ) → length args ≤ i → numbers_of_args v (drop i args) ≡ []
 unfolding numbers_of_args

@@ -1,5 +1,5 @@
 -- Lists of numbers that are taken one after the other, up to the first error.
-use Rattle.std.specs.Prelude.{◌≡◌, ℕ, ℤ, List, [], ◌∷◌, fold, length, Result, Ok, Err}
+use Rattle.std.specs.Prelude.{◌≡◌, ◌^◌, ℕ, ℤ, List, [], ◌∷◌, fold, length, Result, Ok, Err}
 use Rattle.std.specs.List.{flat_map}
 use Rattle.calc_model.specs.declared.arg.Arg.{Arg}
 use Rattle.calc_model.specs.declared.arg.Arg.TheVariants as arg
@@ -21,13 +21,9 @@ numbers_of_arg values (arg.Area area) = numbers_in_cells (values_in values area)
 unfoldable pub numbers_of_args : CellValues → List Arg → List (Result ℤ Fault)
 numbers_of_args values args = flat_map (numbers_of_arg values) args
 
-abbrev pub values_of_arg : CellValues → Arg → List Value
-values_of_arg values (arg.Scalar value) = value ∷ []
-values_of_arg values (arg.Area area) = values_in values area
-
--- how many values a list has, blank ones too
-unfoldable pub value_count : CellValues → List Arg → ℕ
-value_count values args = length (flat_map (values_of_arg values) args)
+-- an area's most cells: those of a whole sheet
+abbrev pub MOST_IN_AREA : ℕ
+MOST_IN_AREA = 2 ^ 30
 
 -- The numbers were taken from a state on and led to another one, or one of them is the first error.
 abbrev pub IsTallied : {S U : Type 0} → (S → ℤ → S) → S → List (Result ℤ Fault) → S → Result U Fault → Type 0

@@ -10,5 +10,5 @@ mod words;
 pub use answers::{copied, counted, scalar, truth, value, value_of};
 pub use kinds::{area, number, truth_value, whole};
 pub use pieces::Pieces;
-pub use tally::{Tally, tally_list};
+pub use tally::{Tally, lies_in_sheet, small, tally_list};
 pub use words::{Words, key, text};

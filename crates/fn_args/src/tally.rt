@@ -1,9 +1,10 @@
-ghost use Rattle.std.specs.Prelude.{◌≡◌, ◌+◌, length};
+ghost use Rattle.std.specs.Prelude.{◌≡◌, ◌≤◌, ◌*◌, fold, length};
+ghost use Rattle.calc_addr.specs.Places.{IsRectangle};
 ghost use Rattle.calc_model.specs.Lists.{number_in_cell, number_of_scalar};
 ghost use Rattle.calc_model.specs.Meanings.{values_in};
 ghost use Rattle.calc_model.specs.UsedCells.{values_of};
 ghost use Rattle.calc_model.specs.ValueTexts.{lent};
-ghost use Rattle.fn_args.specs.Tallies.{IsTallied, numbers_in_cells, numbers_of_arg, numbers_of_args, value_count, values_of_arg};
+ghost use Rattle.fn_args.specs.Tallies.{IsTallied, MOST_IN_AREA, numbers_in_cells, numbers_of_arg, numbers_of_args};
 
 use crate::pieces::Pieces;
 use calc_addr::Area;
@@ -24,11 +25,6 @@ pub trait Tally {
         requires { room self.old 1 }
         ensures { self.new ≡ step self.old number };
 
-    /// Takes the numbers with these raw numbers.
-    fn take_small(&mut self, items: &[i64])
-        requires { room self.old (length items.now) }
-        ensures { self.new ≡ fold step self.old items.now };
-
     ghost room_left: { (s : Self) (n : ℤ) (k : ℕ) → room s (1 + k) → room (step s n) k };
 
     ghost room_before: { (s : Self) (j k : ℕ) → room s (j + k) → room s j };
@@ -37,7 +33,7 @@ pub trait Tally {
 /// Gives a tally the numbers of a list, up to the first error: a text in a cell and a blank value are passed
 /// over, a text that is no cell's is no number.
 pub fn tally_list<V: Values, T: Tally>(args: &[Arg], values: &V, taker: &mut T) -> Result<(), Fault>
-    requires { T.room taker.old (value_count (V.values values.now) args.now) }
+    requires { T.room taker.old (length args.now * MOST_IN_AREA) }
     ensures { IsTallied T.step taker.old (numbers_of_args (V.values values.now) args.now)
         taker.new result }
 {
@@ -49,14 +45,25 @@ pub fn tally_list<V: Values, T: Tally>(args: &[Arg], values: &V, taker: &mut T) 
 
 /// Gives a tally the numbers of a parameter.
 fn tally_arg<V: Values, T: Tally>(arg: &Arg, values: &V, taker: &mut T) -> Result<(), Fault>
-    requires { T.room taker.old (length (values_of_arg (V.values values.now) arg.now)) }
-    ensures { IsTallied T.step taker.old (numbers_of_arg (V.values values.now) arg.now)
+    requires { T.room taker.old MOST_IN_AREA }
+    ensures tallied { IsTallied T.step taker.old (numbers_of_arg (V.values values.now) arg.now)
         taker.new result }
+    ensures few { length (numbers_of_arg (V.values values.now) arg.now) ≤ MOST_IN_AREA }
 {
     match arg {
         Arg::Scalar(value) => tally_scalar(value, taker),
-        Arg::Area(area) => tally_area(*area, values, taker),
+        Arg::Area(area) => {
+            lies_in_sheet(*area);
+            tally_area(*area, values, taker)
+        }
     }
+}
+
+/// An area lies in a sheet, so it has no more cells than one. The call does nothing.
+pub fn lies_in_sheet(area: Area)
+    ensures { IsRectangle area }
+{
+    let _row = area.first_row;
 }
 
 /// Gives a tally the number of a value that is no cell's.
@@ -94,12 +101,29 @@ fn tally_piece<T: Tally>(piece: &Piece<'_>, taker: &mut T) -> Result<(), Fault>
 {
     match piece {
         Piece::Small { items } => {
-            taker.take_small(items);
+            tally_small(items, taker);
             Ok(())
         }
         Piece::Blank { .. } => Ok(()),
         Piece::One(seen) => tally_cell(seen, taker),
     }
+}
+
+/// Gives a tally the numbers with these raw numbers.
+fn tally_small<T: Tally>(items: &[i64], taker: &mut T)
+    requires { T.room taker.old (length items.now) }
+    ensures { taker.new ≡ fold T.step taker.old items.now }
+{
+    for item in items {
+        taker.take(small(*item));
+    }
+}
+
+/// The number with a raw number of 64 bits.
+pub fn small(raw: i64) -> Num
+    ensures { result ≡ raw }
+{
+    Num::from_raw(i128::from(raw)).unwrap()
 }
 
 /// Gives a tally the number of a cell.

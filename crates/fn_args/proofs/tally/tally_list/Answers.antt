@@ -1,12 +1,12 @@
-use Rattle.std.proofs.Common.{◌+◌, drop, rules, arith}
-use Rattle.fn_args.specs.Tallies.{numbers_of_arg, numbers_of_args, value_count}
-use Rattle.fn_args.proofs.Tallying.{begins, count-first, ends, goes_on, length-arg, no_args, numbers-first, room_here, stops}
+use Rattle.std.proofs.Common.{◌+◌, ◌*◌, drop, length, rules, arith}
+use Rattle.fn_args.specs.Tallies.{MOST_IN_AREA, numbers_of_arg, numbers_of_args}
+use Rattle.fn_args.proofs.Tallying.{begins, count-left, ends, goes_on, no_args, numbers-first, room_here, stops}
 use Rattle.fn_args.proofs.tally.tally_list.Goals as goal
 
 pub loop-arg-init : goal.loop-arg-init
 loop-arg-init g c =
     let v = g.V.Values.values c.args.values.now in
-    begins g.T.Tally.step g.T.Tally.room g.met.T.Tally.room_left g.met.T.Tally.room_before c.args.taker.now (numbers_of_args v c.args.args.now) (value_count v c.args.args.now) c.requires
+    begins g.T.Tally.step g.T.Tally.room g.met.T.Tally.room_left g.met.T.Tally.room_before c.args.taker.now (numbers_of_args v c.args.args.now) (length c.args.args.now * MOST_IN_AREA) c.requires
 
 pub tally_arg-requires : goal.tally_arg-requires
 tally_arg-requires g c =
@@ -14,7 +14,7 @@ tally_arg-requires g c =
     let x = c.arg-item.result in
     let i = c.loop-arg.arg-index in
     room_here g.T.Tally.step g.T.Tally.room g.met.T.Tally.room_left g.met.T.Tally.room_before _ _ (numbers_of_arg v x) (numbers_of_args v (drop (i + 1) c.args.args.now)) _ _ _ _ c.loop-arg.taker c.loop-arg.taker
-    (numbers-first v c.args.args.now i x c.loop-arg-test.true c.arg-item.is) (count-first v c.args.args.now i x c.loop-arg-test.true c.arg-item.is) c.loop-arg.invariant
+    (numbers-first v c.args.args.now i x c.loop-arg-test.true c.arg-item.is) (count-left c.args.args.now i c.loop-arg-test.true) c.loop-arg.invariant
 
 pub returns-in_err-tally_arg : goal.returns-in_err-tally_arg
 returns-in_err-tally_arg g c =
@@ -22,7 +22,7 @@ returns-in_err-tally_arg g c =
     let x = c.arg-item.result in
     let i = c.loop-arg.arg-index in
     let bad = stops g.T.Tally.step g.T.Tally.room g.met.T.Tally.room_left g.met.T.Tally.room_before _ _ (numbers_of_arg v x) (numbers_of_args v (drop (i + 1) c.args.args.now)) _ _ _ _ c.loop-arg.taker c.loop-arg.taker
-    (numbers-first v c.args.args.now i x c.loop-arg-test.true c.arg-item.is) (count-first v c.args.args.now i x c.loop-arg-test.true c.arg-item.is) c.loop-arg.invariant c.in_err-tally_arg.field-0.0 (c.in_err-tally_arg.ensures {u = tt}) in
+    (numbers-first v c.args.args.now i x c.loop-arg-test.true c.arg-item.is) (count-left c.args.args.now i c.loop-arg-test.true) c.loop-arg.invariant c.in_err-tally_arg.field-0.0 (c.in_err-tally_arg.ensures {u = tt}).tallied in
     search (rules, bad)
 
 pub loop-arg-preserved : goal.loop-arg-preserved
@@ -30,10 +30,10 @@ loop-arg-preserved g c =
     let v = g.V.Values.values c.args.values.now in
     let x = c.arg-item.result in
     let i = c.loop-arg.arg-index in
-    let given = c.in_ok-tally_arg.ensures {u = tt} in
+    let given = (c.in_ok-tally_arg.ensures {u = tt}).tallied in
     goes_on g.T.Tally.step g.T.Tally.room g.met.T.Tally.room_left g.met.T.Tally.room_before _ _ (numbers_of_arg v x) (numbers_of_args v (drop (i + 1) c.args.args.now)) _ _ _ _ c.loop-arg.taker c.tally_arg.new.taker
-    (numbers-first v c.args.args.now i x c.loop-arg-test.true c.arg-item.is) (count-first v c.args.args.now i x c.loop-arg-test.true c.arg-item.is) c.loop-arg.invariant
-    given.0 (length-arg v x) given.1 given.2
+    (numbers-first v c.args.args.now i x c.loop-arg-test.true c.arg-item.is) (count-left c.args.args.now i c.loop-arg-test.true) c.loop-arg.invariant
+    given.0 c.tally_arg.ensures.few given.1 given.2
 
 pub returns : goal.returns
 returns g c =

@@ -8,7 +8,7 @@ use Rattle.fn_args.proofs.tally.tally_piece.Goals as goal
 
 pub returns-in-Small : goal.returns-in-Small
 returns-in-Small g c =
-    (c.in-Small.items.now, ap (λ p. all_ok (numbers_in_cells (values_of p))) c.in-Small.is ∙ all_numbers c.in-Small.items.now, c.take_small.ensures)
+    (c.in-Small.items.now, ap (λ p. all_ok (numbers_in_cells (values_of p))) c.in-Small.is ∙ all_numbers c.in-Small.items.now, c.tally_small.ensures)
 
 pub returns-in-Blank : goal.returns-in-Blank
 returns-in-Blank g c =
