@@ -2,3 +2,4 @@ pub mod Kinds
 pub mod Pieces
 pub mod Lent
 pub mod Tallies
+pub mod Counts

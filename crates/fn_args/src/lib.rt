@@ -2,12 +2,14 @@
 #![tactic(auto)]
 
 mod answers;
+mod counts;
 mod kinds;
 mod pieces;
 mod tally;
 mod words;
 
 pub use answers::{copied, counted, scalar, truth, value, value_of};
+pub use counts::{Test, count_area, count_list};
 pub use kinds::{area, number, truth_value, whole};
 pub use pieces::Pieces;
 pub use tally::{Tally, lies_in_sheet, small, tally_list};
