@@ -21,7 +21,7 @@ use Rattle.calc_model.specs.declared.value.Value.{Value}
 use Rattle.calc_model.specs.declared.value.Value.TheVariants.{Number, Words, Bad, Blank}
 use Rattle.calc_model.specs.Lists.{number_in_cell, number_of_scalar, numbers, numbers_in}
 use Rattle.calc_model.specs.Parameters.{all_ok, and_then}
-use Rattle.fn_args.specs.Tallies.{numbers_in_cells, numbers_of_arg, numbers_of_args, MOST_IN_AREA}
+use Rattle.fn_args.specs.Tallies.{IsTallied, numbers_in_cells, numbers_of_arg, numbers_of_args, MOST_IN_AREA}
 
 abbrev Numbers : Type 0
 Numbers = List (Result ℤ Fault)
@@ -72,21 +72,6 @@ all_ok-error [] ys fault e = absurd (apart e)
 all_ok-error (Ok n ∷ xs) ys fault e = ap (and_then n) (all_ok-error xs ys fault (cut_off n xs fault e))
 all_ok-error (Err f ∷ xs) ys fault e = e
 
-pub length-all_ok : (xs : Numbers) (ns : List ℤ) → all_ok xs ≡ Ok ns → length ns ≡ length xs
-length-all_ok [] ns e = ap length (sym (inside e))
-length-all_ok (Ok n ∷ xs) ns e =
-    let t = tail_of n xs ns e in
-    ap length t.2 ∙ omega (arith, length-all_ok xs t.0 t.1)
-length-all_ok (Err f ∷ xs) ns e = absurd (apart (sym e))
-
-pub length-cells : (values : List Value) → length (numbers_in_cells values) ≤ length values
-unfolding numbers_in_cells
-length-cells [] = omega arith
-length-cells (Number n ∷ vs) = omega (arith, length-cells vs)
-length-cells (Words text ∷ vs) = omega (arith, length-cells vs)
-length-cells (Bad fault ∷ vs) = omega (arith, length-cells vs)
-length-cells (Blank ∷ vs) = omega (arith, length-cells vs)
-
 -- the numbers of cells that are all numbers, and of blank ones
 pub all_numbers : (ns : List ℤ) → all_ok (numbers_in_cells (map Number ns)) ≡ Ok ns
 unfolding numbers_in_cells
@@ -98,43 +83,41 @@ unfolding numbers_in_cells
 no_numbers zero = refl
 no_numbers (suc count) = no_numbers count
 
--- What a loop over values keeps: the numbers so far were taken, and there is room for all that is left.
-pub record IsUnderWay {S : Type 0} (step : S → ℤ → S) (room : S → ℕ → Type 0) (first : S) (all rest : Numbers) (size : ℕ) (now : S) : Type 0 where
+-- What a loop over values keeps: the numbers so far were taken, and there is room for as many more as before but those.
+pub record IsUnderWay {S : Type 0} (step : S → ℤ → S) (room : S → ℕ → Type 0) (first : S) (most : ℕ) (all rest : Numbers) (size : ℕ) (now : S) : Type 0 where
   pub taken : List ℤ
   pub numbers : all_ok all ≡ after taken (all_ok rest)
   pub state : now ≡ fold step first taken
-  pub left : room now size
+  pub left : (k : ℕ) → room first (most + k) → room now (size + k)
 
-module _ {S : Type 0} (step : S → ℤ → S) (room : S → ℕ → Type 0) (room_left : (s : S) (n : ℤ) (k : ℕ) → room s (1 + k) → room (step s n) k) (room_before : (s : S) (j k : ℕ) → room s (j + k) → room s j) where
-  room_after : (ns : List ℤ) (s : S) (k : ℕ) → room s (length ns + k) → room (fold step s ns) k
-  room_after [] s k h = subst (room s) (omega arith) h
-  room_after (n ∷ ns) s k h =
-      let e : suc (length ns) + k ≡ 1 + (length ns + k) = omega arith in
-      room_after ns (step s n) k (room_left s n (length ns + k) (subst (room s) e h))
+module _ {S : Type 0} (step : S → ℤ → S) (room : S → ℕ → Type 0) (first : S) (most : ℕ) (all : Numbers) where
+  pub begins : IsUnderWay step room first most all all most first
+  begins = record { taken = []; numbers = sym (after-none (all_ok all)); state = refl; left = λ k h. h }
 
-  pub begins : (first : S) (all : Numbers) (size : ℕ) → room first size → IsUnderWay step room first all all size first
-  begins first all size h = record { taken = []; numbers = sym (after-none (all_ok all)); state = refl; left = h }
+  module _ (front more rest : Numbers) (size n j : ℕ) (now new : S) (split : rest ≡ front ++ more) (sizes : size ≡ n + j) (h : IsUnderWay step room first most all rest size now) where
+    pub room_here : ((s : S) (j k : ℕ) → room s (j + k) → room s k) → room first most → room now n
+    room_here behind r =
+        let e : most ≡ most + 0 = omega arith in
+        let f : size + 0 ≡ j + n = omega (arith, sizes) in
+        behind now j n (subst (room now) f (h.left 0 (subst (room first) e r)))
 
-  room_for : (s : S) (j n : ℕ) → j ≤ n → room s n → room s j
-  room_for s j n h = λ r. room_before s j (n - j) (subst (room s) (omega (arith, h)) r)
-
-  module _ (first : S) (all front more rest : Numbers) (size n k : ℕ) (now new : S) (split : rest ≡ front ++ more) (sizes : size ≡ n + k) (h : IsUnderWay step room first all rest size now) where
-    pub room_here : room now n
-    room_here = room_before now n k (subst (room now) sizes h.left)
-
-    pub goes_on : (ns : List ℤ) → length front ≤ n → all_ok front ≡ Ok ns → new ≡ fold step now ns → IsUnderWay step room first all more k new
-    goes_on ns short ok is = record {
+    pub goes_on : (ns : List ℤ) → all_ok front ≡ Ok ns → new ≡ fold step now ns → ((k : ℕ) → room now (n + k) → room new k) → IsUnderWay step room first most all more j new
+    goes_on ns ok is left = record {
       taken = h.taken ++ ns;
       numbers = h.numbers ∙ ap (λ xs. after h.taken (all_ok xs)) split ∙ ap (after h.taken) (all_ok-before front more ns ok) ∙ after-after h.taken ns (all_ok more);
       state = is ∙ ap (λ s. fold step s ns) h.state ∙ sym (fold-append step first h.taken ns);
-      left = subst (λ s. room s k) (sym is) (room_after ns now k (room_for now (length ns + k) size (omega (arith, sizes, short, length-all_ok front ns ok)) h.left));
+      left = λ k r.
+          let e : size + k ≡ n + (j + k) = omega (arith, sizes) in
+          left (j + k) (subst (room now) e (h.left k r));
     }
 
     pub stops : (fault : Fault) → all_ok front ≡ Err fault → all_ok all ≡ Err fault
     stops fault bad = h.numbers ∙ ap (λ xs. after h.taken (all_ok xs)) split ∙ ap (after h.taken) (all_ok-error front more fault bad)
 
-  pub ends : (first : S) (all rest : Numbers) (size : ℕ) (now : S) → rest ≡ [] → IsUnderWay step room first all rest size now → (ns : List ℤ) × (all_ok all ≡ Ok ns) × (now ≡ fold step first ns)
-  ends first all rest size now none h = (h.taken, h.numbers ∙ ap (λ xs. after h.taken (all_ok xs)) none ∙ ap Ok (append-nil h.taken), h.state)
+  pub ends : (rest : Numbers) (size : ℕ) (now : S) → rest ≡ [] → size ≡ 0 → IsUnderWay step room first most all rest size now → (ns : List ℤ) × (all_ok all ≡ Ok ns) × (now ≡ fold step first ns) × ((k : ℕ) → room first (most + k) → room now k)
+  ends rest size now none empty h = (h.taken, h.numbers ∙ ap (λ xs. after h.taken (all_ok xs)) none ∙ ap Ok (append-nil h.taken), h.state, λ k r.
+      let e : size + k ≡ k = omega (arith, empty) in
+      subst (room now) e (h.left k r))
 
 pub one_cell : (value : Value) → numbers_in_cells (value ∷ []) ≡ number_in_cell value
 unfolding numbers_in_cells
@@ -169,15 +152,6 @@ few_cells v a in_sheet =
     let rows : a.last_row + 1 - a.first_row ≤ 1048576 = omega (arith, in_sheet.rows_from, in_sheet.rows_to) in
     omega (arith, count, mul-le-mul_right (a.last_row + 1 - a.first_row) cols, rows)
 
-pub few_in_area : (v : CellValues) (a : Rectangle) → IsRectangle a → length (numbers_in_cells (values_in v a)) ≤ MOST_IN_AREA
-few_in_area v a in_sheet = omega (arith, length-cells (values_in v a), few_cells v a in_sheet)
-
-pub few_scalars : (value : Value) → length (number_of_scalar value) ≤ MOST_IN_AREA
-few_scalars (Number n) = omega arith
-few_scalars (Words text) = omega arith
-few_scalars (Bad fault) = omega arith
-few_scalars Blank = omega arith
-
 pub no_args : (v : CellValues) (args : List Arg) (i : ℕ) → length args ≤ i → numbers_of_args v (drop i args) ≡ []
 unfolding numbers_of_args
 no_args v args i h = ap (flat_map (numbers_of_arg v)) (drop_all i args h)
@@ -199,3 +173,10 @@ from_numbers home v args next ns e = ap (λ r. from_ok r next) (numbers-are home
 
 pub from_fault : (home : Place) (v : CellValues) (args : List Arg) (next : List ℤ → Value) (fault : Fault) → all_ok (numbers_of_args v args) ≡ Err fault → from_ok (numbers (meanings_of home v args)) next ≡ Bad fault
 from_fault home v args next fault e = ap (λ r. from_ok r next) (numbers-are home v args ∙ e)
+
+-- the same from a state with more room
+pub widened : {S U : Type 0} (step : S → ℤ → S) (room : S → ℕ → Type 0) → ((s : S) (j k : ℕ) → room s (j + k) → room s k) → (n m : ℕ) → n ≤ m → (old : S) (xs : Numbers) (new : S) (result : Result U Fault) → IsTallied step room n old xs new result → IsTallied step room m old xs new result
+widened step room behind n m h old xs new (Ok done) t = (t.0, t.1, t.2, λ k r.
+    let e : m + k ≡ m - n + (n + k) = omega (arith, h) in
+    t.3 k (behind old (m - n) (n + k) (subst (room old) e r)))
+widened step room behind n m h old xs new (Err fault) t = t

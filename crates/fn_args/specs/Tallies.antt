@@ -1,5 +1,5 @@
 -- Lists of numbers that are taken one after the other, up to the first error.
-use Rattle.std.specs.Prelude.{◌≡◌, ◌^◌, ℕ, ℤ, List, [], ◌∷◌, fold, length, Result, Ok, Err}
+use Rattle.std.specs.Prelude.{◌≡◌, ◌+◌, ◌^◌, ℕ, ℤ, List, [], ◌∷◌, fold, length, Result, Ok, Err}
 use Rattle.std.specs.List.{flat_map}
 use Rattle.calc_model.specs.declared.arg.Arg.{Arg}
 use Rattle.calc_model.specs.declared.arg.Arg.TheVariants as arg
@@ -25,7 +25,9 @@ numbers_of_args values args = flat_map (numbers_of_arg values) args
 abbrev pub MOST_IN_AREA : ℕ
 MOST_IN_AREA = 2 ^ 30
 
--- The numbers were taken from a state on and led to another one, or one of them is the first error.
-abbrev pub IsTallied : {S U : Type 0} → (S → ℤ → S) → S → List (Result ℤ Fault) → S → Result U Fault → Type 0
-IsTallied step old numbers new (Ok done) = (ns : List ℤ) × (all_ok numbers ≡ Ok ns) × (new ≡ fold step old ns)
-IsTallied step old numbers new (Err fault) = all_ok numbers ≡ Err fault
+-- The numbers were taken from a state on and led to another one, where there is room for all but so many as there
+-- was before; or one of them is the first error.
+abbrev pub IsTallied : {S U : Type 0} → (S → ℤ → S) → (S → ℕ → Type 0) → ℕ → S → List (Result ℤ Fault) → S → Result U Fault → Type 0
+IsTallied step room size old numbers new (Ok done) =
+    (ns : List ℤ) × (all_ok numbers ≡ Ok ns) × (new ≡ fold step old ns) × ((k : ℕ) → room old (size + k) → room new k)
+IsTallied step room size old numbers new (Err fault) = all_ok numbers ≡ Err fault

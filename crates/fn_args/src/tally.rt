@@ -1,4 +1,4 @@
-ghost use Rattle.std.specs.Prelude.{◌≡◌, ◌≤◌, ◌*◌, fold, length};
+ghost use Rattle.std.specs.Prelude.{◌≡◌, ◌+◌, ◌*◌, ℕ, fold, length};
 ghost use Rattle.calc_addr.specs.Places.{IsRectangle};
 ghost use Rattle.calc_model.specs.Lists.{number_in_cell, number_of_scalar};
 ghost use Rattle.calc_model.specs.Meanings.{values_in};
@@ -23,18 +23,17 @@ pub trait Tally {
     /// Takes one number.
     fn take(&mut self, number: Num)
         requires { room self.old 1 }
-        ensures { self.new ≡ step self.old number };
+        ensures taken { self.new ≡ step self.old number }
+        ensures left { (k : ℕ) → room self.old (1 + k) → room self.new k };
 
-    ghost room_left: { (s : Self) (n : ℤ) (k : ℕ) → room s (1 + k) → room (step s n) k };
-
-    ghost room_before: { (s : Self) (j k : ℕ) → room s (j + k) → room s j };
+    ghost room_behind: { (s : Self) (j k : ℕ) → room s (j + k) → room s k };
 }
 
 /// Gives a tally the numbers of a list, up to the first error: a text in a cell and a blank value are passed
 /// over, a text that is no cell's is no number.
 pub fn tally_list<V: Values, T: Tally>(args: &[Arg], values: &V, taker: &mut T) -> Result<(), Fault>
     requires { T.room taker.old (length args.now * MOST_IN_AREA) }
-    ensures { IsTallied T.step taker.old (numbers_of_args (V.values values.now) args.now)
+    ensures { IsTallied T.step T.room (length args.now * MOST_IN_AREA) taker.old (numbers_of_args (V.values values.now) args.now)
         taker.new result }
 {
     for arg in args {
@@ -46,9 +45,8 @@ pub fn tally_list<V: Values, T: Tally>(args: &[Arg], values: &V, taker: &mut T) 
 /// Gives a tally the numbers of a parameter.
 fn tally_arg<V: Values, T: Tally>(arg: &Arg, values: &V, taker: &mut T) -> Result<(), Fault>
     requires { T.room taker.old MOST_IN_AREA }
-    ensures tallied { IsTallied T.step taker.old (numbers_of_arg (V.values values.now) arg.now)
+    ensures { IsTallied T.step T.room MOST_IN_AREA taker.old (numbers_of_arg (V.values values.now) arg.now)
         taker.new result }
-    ensures few { length (numbers_of_arg (V.values values.now) arg.now) ≤ MOST_IN_AREA }
 {
     match arg {
         Arg::Scalar(value) => tally_scalar(value, taker),
@@ -69,7 +67,7 @@ pub fn lies_in_sheet(area: Area)
 /// Gives a tally the number of a value that is no cell's.
 fn tally_scalar<T: Tally>(value: &Value, taker: &mut T) -> Result<(), Fault>
     requires { T.room taker.old 1 }
-    ensures { IsTallied T.step taker.old (number_of_scalar value.now) taker.new result }
+    ensures { IsTallied T.step T.room 1 taker.old (number_of_scalar value.now) taker.new result }
 {
     match value {
         Value::Number(number) => {
@@ -85,7 +83,7 @@ fn tally_scalar<T: Tally>(value: &Value, taker: &mut T) -> Result<(), Fault>
 /// Gives a tally the numbers of an area's cells, up to the first error.
 fn tally_area<V: Values, T: Tally>(area: Area, values: &V, taker: &mut T) -> Result<(), Fault>
     requires { T.room taker.old (length (values_in (V.values values.now) area)) }
-    ensures { IsTallied T.step taker.old
+    ensures { IsTallied T.step T.room (length (values_in (V.values values.now) area)) taker.old
         (numbers_in_cells (values_in (V.values values.now) area)) taker.new result }
 {
     for piece in Pieces::of(area, values) {
@@ -97,7 +95,7 @@ fn tally_area<V: Values, T: Tally>(area: Area, values: &V, taker: &mut T) -> Res
 /// Gives a tally the numbers of a piece.
 fn tally_piece<T: Tally>(piece: &Piece<'_>, taker: &mut T) -> Result<(), Fault>
     requires { T.room taker.old (length (values_of piece.now)) }
-    ensures { IsTallied T.step taker.old (numbers_in_cells (values_of piece.now)) taker.new result }
+    ensures { IsTallied T.step T.room (length (values_of piece.now)) taker.old (numbers_in_cells (values_of piece.now)) taker.new result }
 {
     match piece {
         Piece::Small { items } => {
@@ -112,7 +110,8 @@ fn tally_piece<T: Tally>(piece: &Piece<'_>, taker: &mut T) -> Result<(), Fault>
 /// Gives a tally the numbers with these raw numbers.
 fn tally_small<T: Tally>(items: &[i64], taker: &mut T)
     requires { T.room taker.old (length items.now) }
-    ensures { taker.new ≡ fold T.step taker.old items.now }
+    ensures taken { taker.new ≡ fold T.step taker.old items.now }
+    ensures left { (k : ℕ) → T.room taker.old (length items.now + k) → T.room taker.new k }
 {
     for item in items {
         taker.take(small(*item));
@@ -129,7 +128,7 @@ pub fn small(raw: i64) -> Num
 /// Gives a tally the number of a cell.
 fn tally_cell<T: Tally>(seen: &Seen<'_>, taker: &mut T) -> Result<(), Fault>
     requires { T.room taker.old 1 }
-    ensures { IsTallied T.step taker.old (number_in_cell (lent seen.now)) taker.new result }
+    ensures { IsTallied T.step T.room 1 taker.old (number_in_cell (lent seen.now)) taker.new result }
 {
     match seen {
         Seen::Number(number) => {

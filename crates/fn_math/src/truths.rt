@@ -55,13 +55,5 @@ impl Tally for Truths {
         self.count(number.raw() != 0);
     }
 
-    fn take_small(&mut self, items: &[i64]) {
-        for item in items {
-            self.count(*item != 0);
-        }
-    }
-
-    ghost room_left = { λ s n k h. tt };
-
-    ghost room_before = { λ s j k h. tt };
+    ghost room_behind = { λ s j k h. tt };
 }

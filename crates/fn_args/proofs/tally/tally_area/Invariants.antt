@@ -7,6 +7,7 @@ use Rattle.fn_args.proofs.tally.tally_area.Given as goal
 
 abbrev pub invariant-loop-piece : goal.invariant-loop-piece
 invariant-loop-piece g l =
-    IsUnderWay g.T.Tally.step g.T.Tally.room l.fn.taker (numbers_in_cells (values_in (g.V.Values.values l.values) l.fn.area)) (numbers_in_cells l.piece-iterator) (length l.piece-iterator) l.taker ×
+    let all = values_in (g.V.Values.values l.values) l.fn.area in
+    IsUnderWay g.T.Tally.step g.T.Tally.room l.fn.taker (length all) (numbers_in_cells all) (numbers_in_cells l.piece-iterator) (length l.piece-iterator) l.taker ×
     (goal.iterator-loop-piece g).can_next l.piece-iterator ×
     (goal.iterator-loop-piece g).is_finite l.piece-iterator

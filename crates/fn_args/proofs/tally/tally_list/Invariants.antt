@@ -6,4 +6,5 @@ use Rattle.fn_args.proofs.tally.tally_list.Given as goal
 
 abbrev pub invariant-loop-arg : goal.invariant-loop-arg
 invariant-loop-arg g l =
-    IsUnderWay g.T.Tally.step g.T.Tally.room l.fn.taker (numbers_of_args (g.V.Values.values l.values) l.args) (numbers_of_args (g.V.Values.values l.values) (drop l.arg-index l.args)) (length (drop l.arg-index l.args) * MOST_IN_AREA) l.taker
+    let v = g.V.Values.values l.values in
+    IsUnderWay g.T.Tally.step g.T.Tally.room l.fn.taker (length l.args * MOST_IN_AREA) (numbers_of_args v l.args) (numbers_of_args v (drop l.arg-index l.args)) (length (drop l.arg-index l.args) * MOST_IN_AREA) l.taker

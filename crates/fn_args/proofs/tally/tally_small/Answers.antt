@@ -3,5 +3,8 @@ use Rattle.fn_args.proofs.tally.tally_small.Goals as goal
 
 pub take-requires : goal.take-requires
 take-requires g c =
-    let e : length c.args.items.now - c.loop-item.item-index ≡ 1 + (length c.args.items.now - c.loop-item.item-index - 1) = omega (arith, c.loop-item-test.true) in
-    g.met.T.Tally.room_before c.loop-item.taker 1 (length c.args.items.now - c.loop-item.item-index - 1) (subst (g.T.Tally.room c.loop-item.taker) e c.loop-item.invariant.1)
+    let n = length c.args.items.now in
+    let i = c.loop-item.item-index in
+    let e : n ≡ n + 0 = omega arith in
+    let f : n - i + 0 ≡ n - i - 1 + 1 = omega (arith, c.loop-item-test.true) in
+    g.met.T.Tally.room_behind c.loop-item.taker (n - i - 1) 1 (subst (g.T.Tally.room c.loop-item.taker) f (c.loop-item.invariant.1 0 (subst (g.T.Tally.room c.args.taker.now) e c.requires)))
