@@ -1,19 +1,35 @@
 -- What is kept of the numbers of a list so far.
-use Rattle.std.specs.Prelude.{ℕ, ℤ, neg_ℤ, pos, ◌+◌, ◌*◌, ◌^◌, ◌≤◌, ◌<◌, ◌+ℤ◌, ◌≤ℤ◌, Option, Some, None}
-use Rattle.std.specs.Int.{int_max, int_min}
-use Rattle.calc_num.specs.Decimals.{◌>>=◌, mul}
-use Rattle.calc_num.specs.declared.num.NumFault.{NumFault}
-use Rattle.std.specs.Prelude.{Result, Ok, Err}
-use Rattle.fn_stat.specs.declared.sums.Sum.{Sum}
+use Rattle.std.specs.Prelude.{ℕ, ℤ, neg_ℤ, pos, zero, suc, ◌+◌, ◌-◌, ◌*◌, ◌^◌, ◌≤◌, ◌+ℤ◌, ◌≤ℤ◌, Option, Some, None}
+use Rattle.calc_num.specs.Decimals.{nearest}
+use Rattle.calc_model.specs.declared.fault.Fault.TheVariants.{DivZero}
+use Rattle.calc_model.specs.declared.value.Value.{Value}
+use Rattle.calc_model.specs.declared.value.Value.TheVariants.{Bad, Number}
 
-abbrev pub with_term : Sum → ℤ → Sum
+-- the sum of some numbers, and how many they are
+pub record Totals : Type 0 where
+  pub total : ℤ
+  pub count : ℕ
+
+-- each is in range
+pub record IsBounded (total : ℤ) (count : ℕ) : Type 0 where
+  pub low : neg_ℤ (pos (count * (10 ^ 27 - 1))) ≤ℤ total
+  pub high : total ≤ℤ pos (count * (10 ^ 27 - 1))
+
+abbrev pub with_term : Totals → ℤ → Totals
 with_term sum n = record { total = sum.total +ℤ n; count = sum.count + 1 }
 
--- So many numbers in range more can be added without leaving 128 bits.
-pub record HasRoom (sum : Sum) (more : ℕ) : Type 0 where
-  pub low : neg_ℤ (pos (2 ^ 126)) ≤ℤ sum.total +ℤ neg_ℤ (pos (more * 10 ^ 27))
-  pub high : sum.total +ℤ pos (more * 10 ^ 27) ≤ℤ pos (2 ^ 126)
-  pub count : sum.count + more ≤ 2 ^ 60
+-- The sum of at most so many numbers in range fits 128 bits.
+abbrev pub MOST_TERMS : ℕ
+MOST_TERMS = 2 ^ 36
+
+-- so many can be added
+abbrev pub HasRoom : Totals → ℕ → Type 0
+HasRoom sum more = sum.count + more ≤ MOST_TERMS
+
+-- the mean, rounded to the nearest
+abbrev pub mean : ℤ → ℕ → Value
+mean total zero = Bad DivZero
+mean total (suc count) = Number (nearest total (suc count))
 
 -- an extreme so far, if there is one
 abbrev pub with_extreme : (ℤ → ℤ → ℤ) → Option ℤ → ℤ → Option ℤ
