@@ -1,6 +1,9 @@
 -- What is kept of the numbers of a list so far.
 use Rattle.std.specs.Prelude.{ℕ, ℤ, neg_ℤ, pos, zero, suc, ◌+◌, ◌-◌, ◌*◌, ◌^◌, ◌≤◌, ◌+ℤ◌, ◌≤ℤ◌, Option, Some, None}
-use Rattle.calc_num.specs.Decimals.{nearest}
+use Rattle.std.specs.Prelude.{Bool, Result, if◌then◌else◌}
+use Rattle.calc_num.specs.Decimals.{◌>>=◌, mul, nearest}
+use Rattle.calc_num.specs.declared.num.NumFault.{NumFault}
+use Rattle.calc_model.specs.Operators.{value_of}
 use Rattle.calc_model.specs.declared.fault.Fault.TheVariants.{DivZero}
 use Rattle.calc_model.specs.declared.value.Value.{Value}
 use Rattle.calc_model.specs.declared.value.Value.TheVariants.{Bad, Number}
@@ -35,3 +38,14 @@ mean total (suc count) = Number (nearest total (suc count))
 abbrev pub with_extreme : (ℤ → ℤ → ℤ) → Option ℤ → ℤ → Option ℤ
 with_extreme extreme None n = Some n
 with_extreme extreme (Some m) n = Some (extreme m n)
+
+abbrev pub extreme_or_zero : Option ℤ → Value
+extreme_or_zero (Some n) = Number n
+extreme_or_zero None = Number (pos 0)
+
+-- a product so far with one more factor
+abbrev pub with_factor : Result ℤ NumFault → ℤ → Result ℤ NumFault
+with_factor product n = product >>= (λ p. mul p n)
+
+abbrev pub product_or_zero : Bool → Result ℤ NumFault → Value
+product_or_zero some product = if some then value_of product else Number (pos 0)

@@ -1,6 +1,8 @@
 //! Functions of lists and areas: sums, means, extremes, products and counts, each by its definition.
 #![tactic(auto)]
 
+mod extremes;
 mod sums;
 
+pub use extremes::{fn_max, fn_min, fn_product};
 pub use sums::{fn_average, fn_sum};

@@ -1,0 +1,16 @@
+use Rattle.std.proofs.Common.{ap, sym, ◌∙◌}
+use Rattle.std.specs.Prelude.{fold}
+use Rattle.calc_model.specs.declared.value.Value.TheVariants.{Number}
+use Rattle.calc_model.specs.Statistics.{greatest_of}
+use Rattle.fn_args.proofs.Tallying.{from_fault}
+use Rattle.fn_stat.proofs.Multiplying.{greatest_is, with_greatest}
+use Rattle.fn_stat.proofs.extremes.fn_max.Goals as goal
+
+pub returns-in-Ok : goal.returns-in-Ok
+returns-in-Ok g c =
+    let told = c.in-Ok.ensures {u = tt} in
+    c.number_or_zero.ensures ∙ greatest_is c.args.home (g.V.Values.values c.args.values.now) c.args.args.now told.0 told.1 c.tally_list.new.taker (told.2 ∙ ap (λ none. fold with_greatest none told.0) c.new-so_far.ensures)
+
+pub returns-in-Err : goal.returns-in-Err
+returns-in-Err g c =
+    sym (from_fault c.args.home (g.V.Values.values c.args.values.now) c.args.args.now (λ ns. Number (greatest_of ns)) c.in-Err.fault (c.in-Err.ensures {u = tt}))
