@@ -1,0 +1,245 @@
+//! Criteria: which cells a value picks (OpenFormula, 4.11.8).
+ghost use Rattle.std.specs.Prelude.{◌≡◌, IfOk};
+ghost use Rattle.std.specs.Ordering.{is_eq, is_ge, is_gt, is_le, is_lt};
+ghost use Rattle.calc_model.specs.Arguments.{meaning_of, meanings_of};
+ghost use Rattle.std.specs.List.{count_by};
+ghost use Rattle.calc_model.specs.Meanings.{values_in};
+ghost use Rattle.calc_model.specs.Texts.{counted};
+ghost use Rattle.calc_model.specs.Parameters.{key, key_of};
+ghost use Rattle.calc_model.specs.Statistics.{count_if};
+ghost use Rattle.calc_model.specs.Criteria.{criterion, criterion_by, criterion_of_text, is_equal, matches, matches_by, order_in_kind, passes};
+ghost use Rattle.calc_model.specs.ValueTexts.{lent};
+ghost use Rattle.calc_model.specs.declared.value.Value.TheVariants as value;
+ghost use Rattle.fn_stat.specs.Criterions.{meant, wanted_lent, wanted_value};
+
+use calc_addr::{Area, Cell, NoMemory};
+use calc_model::{Arg, Fault, Op, Seen, Value, Values};
+use calc_num::{Num, Reading};
+use fn_args::{Test, area, count_area, counted, scalar};
+use std::alloc::Global;
+use std::cmp::Ordering;
+
+/// What cells are compared with.
+#[derive(Clone, Copy)]
+pub(crate) enum Wanted<'a> {
+    Number(Num),
+    Words(&'a [u8]),
+}
+
+/// How cells compare with a value where they match.
+#[derive(Clone, Copy)]
+pub(crate) struct Criterion<'a> {
+    pub op: Op,
+    pub with: Wanted<'a>,
+}
+
+/// The criterion that a number or a text stands for.
+pub(crate) fn criterion_of<'a>(key: &Wanted<'a>) -> Criterion<'a>
+    ensures { meant result ≡ criterion (wanted_value key.now) }
+{
+    match key {
+        Wanted::Number(number) => Criterion {
+            op: Op::Eq,
+            with: Wanted::Number(*number),
+        },
+        Wanted::Words(bytes) => criterion_of_text(bytes),
+    }
+}
+
+/// The criterion that a text stands for.
+fn criterion_of_text(bytes: &[u8]) -> Criterion<'_>
+    ensures { meant result ≡ criterion_of_text bytes.now }
+{
+    if bytes.starts_with(b"<>") {
+        criterion_by(Op::Ne, &bytes[2..])
+    } else if bytes.starts_with(b"<=") {
+        criterion_by(Op::Le, &bytes[2..])
+    } else if bytes.starts_with(b">=") {
+        criterion_by(Op::Ge, &bytes[2..])
+    } else if bytes.starts_with(b"=") {
+        criterion_by(Op::Eq, &bytes[1..])
+    } else if bytes.starts_with(b"<") {
+        criterion_by(Op::Lt, &bytes[1..])
+    } else if bytes.starts_with(b">") {
+        criterion_by(Op::Gt, &bytes[1..])
+    } else {
+        criterion_by(Op::Eq, bytes)
+    }
+}
+
+/// A comparison with what a text reads as.
+fn criterion_by(op: Op, bytes: &[u8]) -> Criterion<'_>
+    ensures { meant result ≡ criterion_by op bytes.now }
+{
+    match Num::read(bytes) {
+        Reading::Number(number) => Criterion {
+            op,
+            with: Wanted::Number(number),
+        },
+        _ => Criterion {
+            op,
+            with: Wanted::Words(bytes),
+        },
+    }
+}
+
+/// How a cell compares with a value of its own kind.
+fn order_in_kind(seen: &Seen<'_>, with: &Wanted<'_>) -> Option<Ordering>
+    ensures { result ≡ order_in_kind (lent seen.now) (wanted_value with.now) }
+{
+    match seen {
+        Seen::Number(number) => order_of_number(*number, with),
+        Seen::Words(text) => order_of_words(text.bytes(), with),
+        Seen::Bad(_fault) => None,
+        Seen::Blank => None,
+    }
+}
+
+fn order_of_number(number: Num, with: &Wanted<'_>) -> Option<Ordering>
+    ensures { result ≡ order_in_kind (value.Number number) (wanted_value with.now) }
+{
+    match with {
+        Wanted::Number(other) => Some(number.raw().cmp(&other.raw())),
+        Wanted::Words(_bytes) => None,
+    }
+}
+
+fn order_of_words(bytes: &[u8], with: &Wanted<'_>) -> Option<Ordering>
+    ensures { result ≡ order_in_kind (value.Words bytes.now) (wanted_value with.now) }
+{
+    match with {
+        Wanted::Number(_number) => None,
+        Wanted::Words(other) => Some(bytes.cmp(other)),
+    }
+}
+
+/// Whether a cell is equal to the value; the empty text is equal to a blank cell too.
+fn is_equal(seen: &Seen<'_>, with: &Wanted<'_>) -> bool
+    ensures { result ≡ is_equal (lent seen.now) (wanted_value with.now) }
+{
+    match seen {
+        Seen::Blank => is_no_text(with),
+        _ => order_in_kind(seen, with) == Some(Ordering::Equal),
+    }
+}
+
+/// Whether it is the empty text.
+fn is_no_text(with: &Wanted<'_>) -> bool
+    ensures { result ≡ is_equal value.Blank (wanted_value with.now) }
+{
+    match with {
+        Wanted::Number(_number) => false,
+        Wanted::Words(bytes) => bytes.is_empty(),
+    }
+}
+
+/// Whether a cell matches.
+pub(crate) fn matches(c: &Criterion<'_>, seen: &Seen<'_>) -> bool
+    ensures { result ≡ matches (meant c.now) (lent seen.now) }
+{
+    match c.op {
+        Op::Ne => !is_equal(seen, &c.with),
+        Op::Lt => is_less(order_in_kind(seen, &c.with)),
+        Op::Le => is_at_most(order_in_kind(seen, &c.with)),
+        Op::Gt => is_greater(order_in_kind(seen, &c.with)),
+        Op::Ge => is_at_least(order_in_kind(seen, &c.with)),
+        _ => is_equal(seen, &c.with),
+    }
+}
+
+fn is_less(order: Option<Ordering>) -> bool
+    ensures { result ≡ passes is_lt order }
+{
+    match order {
+        Some(order) => order.is_lt(),
+        None => false,
+    }
+}
+
+fn is_at_most(order: Option<Ordering>) -> bool
+    ensures { result ≡ passes is_le order }
+{
+    match order {
+        Some(order) => order.is_le(),
+        None => false,
+    }
+}
+
+fn is_greater(order: Option<Ordering>) -> bool
+    ensures { result ≡ passes is_gt order }
+{
+    match order {
+        Some(order) => order.is_gt(),
+        None => false,
+    }
+}
+
+fn is_at_least(order: Option<Ordering>) -> bool
+    ensures { result ≡ passes is_ge order }
+{
+    match order {
+        Some(order) => order.is_ge(),
+        None => false,
+    }
+}
+
+impl Test for Criterion<'_> {
+    ghost test = { λ c. matches (meant c) };
+
+    fn passes(&self, seen: &Seen<'_>) -> bool {
+        matches(self, seen)
+    }
+}
+
+/// COUNTIF: how many cells of an area match a criterion, blank ones too.
+pub fn fn_countif<V: Values>(
+    _alloc: Global,
+    args: &[Arg],
+    home: Cell,
+    values: &V,
+) -> Result<Value, NoMemory>
+    ensures { IfOk result (λ v. v ≡ count_if (meanings_of home (V.values values.now) args.now)) }
+{
+    match args {
+        [x, sought] => match area(x) {
+            Err(fault) => Ok(Value::Bad(fault)),
+            Ok(area) => match wanted_by(sought, home, values) {
+                Err(fault) => Ok(Value::Bad(fault)),
+                Ok(wanted) => Ok(count_matching(area, &wanted, values)),
+            },
+        },
+        _ => Ok(Value::Bad(Fault::BadValue)),
+    }
+}
+
+/// How many cells of an area match.
+fn count_matching<V: Values>(area: Area, wanted: &Wanted<'_>, values: &V) -> Value
+    ensures { result ≡ counted (count_by (matches (criterion (wanted_value wanted.now)))
+        (values_in (V.values values.now) area)) }
+{
+    let criterion = criterion_of(wanted);
+    counted(count_area(area, values, &criterion))
+}
+
+/// What a parameter asks cells to be compared with, or its error.
+pub(crate) fn wanted_by<'a, V: Values>(
+    arg: &'a Arg,
+    home: Cell,
+    values: &'a V,
+) -> Result<Wanted<'a>, Fault>
+    ensures { wanted_lent result ≡ key (meaning_of home (V.values values.entry.now) arg.entry.now) }
+{
+    let seen = scalar(arg, home, values);
+    wanted_of(&seen)
+}
+
+fn wanted_of<'a>(seen: &Seen<'a>) -> Result<Wanted<'a>, Fault>
+    ensures { wanted_lent result ≡ key_of (lent seen.now) }
+{
+    match seen {
+        Seen::Number(number) => Ok(Wanted::Number(*number)),
+        Seen::Words(text) => Ok(Wanted::Words(text.bytes())),
+        Seen::Bad(fault) => Err(*fault),
+        Seen::Blank => Ok(Wanted::Number(Num::default())),
+    }
+}
