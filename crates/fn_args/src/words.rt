@@ -78,3 +78,15 @@ fn key_of(seen: Seen<'_>) -> Result<Seen<'_>, Fault>
         Seen::Blank => Ok(Seen::Number(Num::default())),
     }
 }
+
+impl Words<'_> {
+    /// The text.
+    pub fn as_str(&self) -> &str
+        ensures { result.now ≡ words_in self.now }
+    {
+        match self {
+            Words::Lent(text) => text.as_str(),
+            Words::Made(text) => text.as_str(),
+        }
+    }
+}

@@ -37,7 +37,7 @@ chosen-at home v (y ∷ args) (suc n) x h e = chosen-at home v args n x (omega (
 in_order : (sheet top rows left cols row col : ℕ) (d : Place) → row < rows → col < cols → get_or (flat_map (λ c. map (λ r. record { sheet = sheet; col = c; row = r }) (range_with_len top rows)) (range_with_len left cols)) (col * rows + row) d ≡ record { sheet = sheet; col = left + col; row = top + row }
 in_order sheet top rows left zero row col d below within = absurd (omega (arith, within))
 in_order sheet top rows left (suc cols) row zero d below within =
-    let column = map (λ r. record { sheet = sheet; col = left; row = r }) (range_with_len top rows) in
+    let column : List Place = map (λ r. record { sheet = sheet; col = left; row = r }) (range_with_len top rows) in
     let size : length column ≡ rows = length-map (range_with_len top rows) (λ r. record { sheet = sheet; col = left; row = r }) ∙ length-range_with_len top rows in
     let index : 0 * rows + row ≡ row = omega arith in
     let here : left ≡ left + 0 = omega arith in
@@ -46,8 +46,8 @@ in_order sheet top rows left (suc cols) row zero d below within =
     ∙ get_or-map-range_with_len (λ r. record { sheet = sheet; col = left; row = r }) top rows row (top + row) d below refl
     ∙ ap (λ c. record { sheet = sheet; col = c; row = top + row }) here
 in_order sheet top rows left (suc cols) row (suc col) d below within =
-    let column = map (λ r. record { sheet = sheet; col = left; row = r }) (range_with_len top rows) in
-    let rest = flat_map (λ c. map (λ r. record { sheet = sheet; col = c; row = r }) (range_with_len top rows)) (range_with_len (left + 1) cols) in
+    let column : List Place = map (λ r. record { sheet = sheet; col = left; row = r }) (range_with_len top rows) in
+    let rest : List Place = flat_map (λ c. map (λ r. record { sheet = sheet; col = c; row = r }) (range_with_len top rows)) (range_with_len (left + 1) cols) in
     let size : length column ≡ rows = length-map (range_with_len top rows) (λ r. record { sheet = sheet; col = left; row = r }) ∙ length-range_with_len top rows in
     let index : suc col * rows + row ≡ length column + (col * rows + row) = omega (arith, size) in
     let here : left + 1 + col ≡ left + suc col = omega arith in
@@ -61,7 +61,7 @@ pub value-there : (v : CellValues) (a : Rectangle) (row col : ℕ) → row < row
 unfolding values_in
 value-there v a row col below within =
     let i = col * row_count a + row in
-    let d = record { sheet = 0; col = 0; row = 0 } in
+    let d : Place = record { sheet = 0; col = 0; row = 0 } in
     let inside : i < length (places a) = omega (arith, length-places a, mul-le-mul_right (row_count a) within, below) in
     ap v (sym (in_order a.sheet a.first_row (row_count a) a.first_col (col_count a) row col d below within))
     ∙ sym (get_or-map v (places a) i d Blank inside)

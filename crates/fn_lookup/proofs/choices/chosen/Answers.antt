@@ -1,5 +1,6 @@
 use Rattle.std.proofs.Common.{◌≡◌, ◌<ℤ◌, ◌-◌, ℤ, pos, suc, sym, subst, arith, to_z, of_z, w64}
 use Rattle.std.proofs.lemmas.Int.{ints, to_z-of_z}
+use lib.IntN.{nat_abs}
 use Rattle.std.specs.Result.{IfOk}
 use Rattle.calc_model.specs.Arguments.{meanings_of}
 use Rattle.calc_model.specs.Lookup.{chosen}
@@ -15,5 +16,5 @@ returns-then-number-lt1 g c =
 pub returns : goal.returns
 returns g c =
     let same : to_z w64 (of_z w64 c.args.number) ≡ c.args.number = to_z-of_z w64 c.args.number c.ranges.number in
-    let e : pos (suc (of_z w64 c.args.number - 1)) ≡ c.args.number = omega (arith, ints, same, c.if-number-lt1.false) in
+    let e : pos (suc (nat_abs (to_z w64 (of_z w64 c.args.number)) - 1)) ≡ c.args.number = omega (arith, ints, same, c.if-number-lt1.false) in
     subst (λ n. IfOk c.chosen_at.result (λ v. v ≡ chosen (meanings_of c.args.home (g.V.Values.values c.args.values.now) c.args.others.now) n)) e c.chosen_at.ensures
