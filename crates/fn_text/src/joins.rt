@@ -1,5 +1,5 @@
 //! Texts compared, joined and read as numbers (OpenFormula, 6.20 and 6.13.34).
-ghost use Rattle.std.specs.Prelude.{◌≡◌, ◌≤◌, ◌*◌, length, pos, replicate, IfOk};
+ghost use Rattle.std.specs.Prelude.{◌≡◌, ◌*◌, nat_lt, replicate, IfOk};
 ghost use Rattle.std.specs.List.{flat_map};
 ghost use Rattle.calc_num.specs.Spelling.{reading};
 ghost use Rattle.calc_model.specs.Arguments.{meanings_of};
@@ -67,15 +67,25 @@ fn repeated(alloc: Global, words: &str, count: i64) -> Result<Value, NoMemory>
     repeated_often(alloc, words, count as u64)
 }
 
+/// Whether so many bytes so many times are too many.
+fn is_too_long(len: usize, count: u64) -> bool
+    ensures { result ≡ nat_lt MOST_FIELD_BYTES (count * len) }
+{
+    match (len as u64).checked_mul(count) {
+        Some(size) => size > MOST_FIELD_BYTES as u64,
+        None => true,
+    }
+}
+
 /// A text so many times, if that isn't too long.
 fn repeated_often(alloc: Global, words: &str, count: u64) -> Result<Value, NoMemory>
     ensures { IfOk result (λ v. v ≡ kept_words (flat_map (λ b. b) (replicate count words.now))) }
 {
+    if is_too_long(words.len(), count) {
+        return Ok(Value::Bad(Fault::Over));
+    }
     if words.is_empty() {
         return Ok(Value::Words(Text::new(alloc)));
-    }
-    if count > MOST_FIELD_BYTES as u64 || (words.len() as u64) * count > MOST_FIELD_BYTES as u64 {
-        return Ok(Value::Bad(Fault::Over));
     }
     let mut whole = Text::new(alloc);
     for _ in 0..count {

@@ -1,0 +1,2 @@
+-- Repeating: a text so many times.
+pub mod Repeating
