@@ -4,12 +4,12 @@ use Rattle.std.specs.Prelude.{Result, fold}
 use Rattle.std.specs.List.{flat_map}
 use Rattle.std.proofs.lemmas.Grind.{flat_map-append}
 use Rattle.std.proofs.lemmas.List.Sums.{fold-append}
-use Rattle.std.proofs.lemmas.List.{length-append, length-drop, length-map, append-nil, drop_all}
+use Rattle.std.proofs.lemmas.List.{length-drop, length-map, append-nil, drop_all}
 use Rattle.std.proofs.Math.Nat.{mul-le-mul_right}
 use Rattle.calc_addr.proofs.Walking.Places.{length-places}
 use Rattle.std.proofs.lemmas.List.Folds.{flat_map-map}
 use Rattle.std.proofs.Math.Seq.{drop-cons}
-use Rattle.calc_addr.specs.Places.{IsRectangle, Place, Rectangle, cell_count, places}
+use Rattle.calc_addr.specs.Places.{IsRectangle, Place, Rectangle, places}
 use Rattle.calc_model.specs.Arguments.{meaning_of, meanings_of}
 use Rattle.calc_model.specs.Meanings.{Meaning, values_in}
 use Rattle.calc_model.specs.Operators.{from_ok}
@@ -18,7 +18,7 @@ use Rattle.calc_model.specs.declared.arg.Arg.{Arg}
 use Rattle.calc_model.specs.declared.arg.Arg.TheVariants as arg
 use Rattle.calc_model.specs.declared.fault.Fault.{Fault}
 use Rattle.calc_model.specs.declared.value.Value.{Value}
-use Rattle.calc_model.specs.declared.value.Value.TheVariants.{Number, Words, Bad, Blank}
+use Rattle.calc_model.specs.declared.value.Value.TheVariants.{Number, Bad, Blank}
 use Rattle.calc_model.specs.Lists.{number_in_cell, number_of_scalar, numbers, numbers_in}
 use Rattle.calc_model.specs.Parameters.{all_ok, and_then}
 use Rattle.fn_args.specs.Tallies.{IsTallied, numbers_in_cells, numbers_of_arg, numbers_of_args, MOST_IN_AREA}
@@ -115,9 +115,14 @@ module _ {S : Type 0} (step : S → ℤ → S) (room : S → ℕ → Type 0) (fi
     stops fault bad = h.numbers ∙ ap (λ xs. after h.taken (all_ok xs)) split ∙ ap (after h.taken) (all_ok-error front more fault bad)
 
   pub ends : (rest : Numbers) (size : ℕ) (now : S) → rest ≡ [] → size ≡ 0 → IsUnderWay step room first most all rest size now → (ns : List ℤ) × (all_ok all ≡ Ok ns) × (now ≡ fold step first ns) × ((k : ℕ) → room first (most + k) → room now k)
-  ends rest size now none empty h = (h.taken, h.numbers ∙ ap (λ xs. after h.taken (all_ok xs)) none ∙ ap Ok (append-nil h.taken), h.state, λ k r.
-      let e : size + k ≡ k = omega (arith, empty) in
-      subst (room now) e (h.left k r))
+  ends rest size now none empty h = (
+    h.taken,
+    h.numbers ∙ ap (λ xs. after h.taken (all_ok xs)) none ∙ ap Ok (append-nil h.taken),
+    h.state,
+    λ k r.
+        let e : size + k ≡ k = omega (arith, empty) in
+        subst (room now) e (h.left k r),
+  )
 
 pub one_cell : (value : Value) → numbers_in_cells (value ∷ []) ≡ number_in_cell value
 unfolding numbers_in_cells
@@ -176,7 +181,12 @@ from_fault home v args next fault e = ap (λ r. from_ok r next) (numbers-are hom
 
 -- the same from a state with more room
 pub widened : {S U : Type 0} (step : S → ℤ → S) (room : S → ℕ → Type 0) → ((s : S) (j k : ℕ) → room s (j + k) → room s k) → (n m : ℕ) → n ≤ m → (old : S) (xs : Numbers) (new : S) (result : Result U Fault) → IsTallied step room n old xs new result → IsTallied step room m old xs new result
-widened step room behind n m h old xs new (Ok done) t = (t.0, t.1, t.2, λ k r.
-    let e : m + k ≡ m - n + (n + k) = omega (arith, h) in
-    t.3 k (behind old (m - n) (n + k) (subst (room old) e r)))
+widened step room behind n m h old xs new (Ok done) t = (
+  t.0,
+  t.1,
+  t.2,
+  λ k r.
+      let e : m + k ≡ m - n + (n + k) = omega (arith, h) in
+      t.3 k (behind old (m - n) (n + k) (subst (room old) e r)),
+)
 widened step room behind n m h old xs new (Err fault) t = t

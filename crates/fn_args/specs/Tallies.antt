@@ -1,5 +1,5 @@
 -- Lists of numbers that are taken one after the other, up to the first error.
-use Rattle.std.specs.Prelude.{◌≡◌, ◌+◌, ◌^◌, ℕ, ℤ, List, [], ◌∷◌, fold, length, Result, Ok, Err}
+use Rattle.std.specs.Prelude.{◌≡◌, ◌+◌, ◌^◌, ℕ, ℤ, List, fold, Result, Ok, Err}
 use Rattle.std.specs.List.{flat_map}
 use Rattle.calc_model.specs.declared.arg.Arg.{Arg}
 use Rattle.calc_model.specs.declared.arg.Arg.TheVariants as arg

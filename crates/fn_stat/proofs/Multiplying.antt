@@ -1,5 +1,5 @@
 -- Extremes and products by what is kept of a list.
-use Rattle.std.proofs.Common.{◌≡◌, ℤ, pos, ◌^◌, Bool, true, false, List, [], ◌∷◌, Ok, Option, Some, None, refl, sym, ap, ◌∙◌}
+use Rattle.std.proofs.Common.{◌≡◌, ℤ, pos, ◌^◌, true, false, List, [], ◌∷◌, Ok, Some, None, refl, sym, ap, ◌∙◌}
 use Rattle.std.specs.Prelude.{Result, fold}
 use Rattle.std.specs.Int.{int_max, int_min}
 use Rattle.calc_addr.specs.Places.{Place}

@@ -1,5 +1,5 @@
 -- Sums and means by what is kept of a list.
-use Rattle.std.proofs.Common.{◌≡◌, ℕ, ℤ, pos, ◌+ℤ◌, ◌+◌, ◌≤◌, List, [], ◌∷◌, Ok, length, refl, sym, ap, ◌∙◌, arith}
+use Rattle.std.proofs.Common.{◌≡◌, ℕ, ℤ, pos, ◌+ℤ◌, ◌+◌, List, [], ◌∷◌, Ok, length, refl, sym, ap, ◌∙◌, arith}
 use Rattle.std.specs.Prelude.{fold}
 use Rattle.calc_addr.specs.Places.{Place}
 use Rattle.calc_model.specs.declared.arg.Arg.{Arg}
@@ -43,5 +43,5 @@ module _ (home : Place) (v : CellValues) (args : List Arg) (ns : List ℤ) (tota
       ∙ ap (λ n. mean n (fold with_term none ns).count) (total-of none ns) ∙ ap (mean (fold ◌+ℤ◌ (pos 0) ns)) (count-of none ns ∙ count-none)
       ∙ sym (from_numbers home v args mean_of ns numbers ∙ mean-of ns)
     where
-    count-none : 0 + length ns ≡ length ns
-    count-none = omega arith
+      count-none : 0 + length ns ≡ length ns
+      count-none = omega arith

@@ -1,5 +1,5 @@
 -- Criteria over lent texts.
-use Rattle.std.specs.Prelude.{ℕ, List, Result, Ok, Err}
+use Rattle.std.specs.Prelude.{Result, Ok, Err}
 use Rattle.calc_model.specs.declared.fault.Fault.{Fault}
 use Rattle.calc_model.specs.declared.value.Value.{Value}
 use Rattle.calc_model.specs.declared.value.Value.TheVariants.{Number, Words}

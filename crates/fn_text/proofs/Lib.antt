@@ -1,2 +1,3 @@
--- Repeating: a text so many times.
+-- Repeating: a text so many times. Splitting: characters that are taken off a text.
 pub mod Repeating
+pub mod Splitting

@@ -1,6 +1,8 @@
 //! Functions of texts, each by its definition.
 #![tactic(auto)]
 
+mod characters;
 mod joins;
 
+pub use characters::fn_len;
 pub use joins::{fn_exact, fn_rept, fn_value};

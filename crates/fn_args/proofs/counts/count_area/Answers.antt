@@ -1,4 +1,4 @@
-use Rattle.std.proofs.Common.{◌≡◌, ◌+◌, ap, sym, ◌∙◌, arith}
+use Rattle.std.proofs.Common.{ap, ◌∙◌, arith}
 use Rattle.std.specs.List.{count_by}
 use Rattle.calc_model.specs.UsedCells.{values_of}
 use Rattle.fn_args.proofs.Counting.{count-append, few-pass}

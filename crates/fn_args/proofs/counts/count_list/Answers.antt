@@ -1,4 +1,4 @@
-use Rattle.std.proofs.Common.{◌+◌, ap, arith}
+use Rattle.std.proofs.Common.{ap, arith}
 use Rattle.std.specs.List.{count_by}
 use Rattle.fn_args.proofs.Counting.{count-first, no_values}
 use Rattle.fn_args.proofs.counts.count_list.Goals as goal

@@ -1,4 +1,4 @@
-use Rattle.std.proofs.Common.{◌≡◌, ◌+◌, length, map, ap, sym, subst, refl, ◌∙◌, []}
+use Rattle.std.proofs.Common.{◌+◌, length, ap, sym, subst, refl, ◌∙◌, []}
 use Rattle.std.proofs.lemmas.List.{length-map}
 use Rattle.calc_model.specs.declared.value.Value.TheVariants.{Number}
 use Rattle.calc_model.specs.Parameters.{all_ok}
@@ -14,9 +14,12 @@ tally_small-requires g c =
 
 pub returns-in-Small : goal.returns-in-Small
 returns-in-Small g c =
-    let size = ap (λ p. length (values_of p)) c.in-Small.is ∙ length-map c.in-Small.items.now Number in
-    (c.in-Small.items.now, ap (λ p. all_ok (numbers_in_cells (values_of p))) c.in-Small.is ∙ all_numbers c.in-Small.items.now, c.tally_small.ensures.taken,
-    λ k r. c.tally_small.ensures.left k (subst (λ n. g.T.Tally.room c.args.taker.now (n + k)) size r))
+    let size = ap (λ p. length (values_of p)) c.in-Small.is ∙ length-map c.in-Small.items.now Number in (
+      c.in-Small.items.now,
+      ap (λ p. all_ok (numbers_in_cells (values_of p))) c.in-Small.is ∙ all_numbers c.in-Small.items.now,
+      c.tally_small.ensures.taken,
+      λ k r. c.tally_small.ensures.left k (subst (λ n. g.T.Tally.room c.args.taker.now (n + k)) size r),
+    )
 
 pub returns-in-Blank : goal.returns-in-Blank
 returns-in-Blank g c =

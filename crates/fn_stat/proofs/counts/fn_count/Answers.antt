@@ -1,4 +1,4 @@
-use Rattle.std.proofs.Common.{ap, not, sym, ◌∙◌}
+use Rattle.std.proofs.Common.{ap, sym, ◌∙◌}
 use Rattle.std.specs.List.{count_by}
 use Rattle.calc_model.specs.Logic.{is_number}
 use Rattle.calc_model.specs.Texts.{counted}

@@ -1,6 +1,5 @@
 use Rattle.std.proofs.Common.{ap, sym, ◌∙◌}
 use Rattle.std.specs.Prelude.{fold}
-use Rattle.calc_model.specs.declared.value.Value.TheVariants.{Number}
 use Rattle.calc_model.specs.Statistics.{product_of}
 use Rattle.fn_args.proofs.Tallying.{from_fault}
 use Rattle.fn_stat.proofs.Multiplying.{product_is, with_product}
