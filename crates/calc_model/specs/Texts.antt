@@ -3,6 +3,7 @@ use Rattle.std.specs.Prelude.{ℕ, ℤ, pos, negsuc, zero, suc, ◌+◌, ◌-◌
 use Rattle.std.specs.List.{find, flat_map, starts_with}
 use Rattle.std.specs.Str.{bytes_eq, chars, encode_utf8_all}
 use Rattle.calc_addr.specs.Places.{from_to}
+use Rattle.calc_num.specs.Decimals.{checked}
 use Rattle.calc_num.specs.Spelling.{reading}
 use Rattle.calc_num.specs.declared.parse.Reading.{Reading}
 use Rattle.calc_num.specs.declared.parse.Reading.TheVariants as readings
@@ -10,13 +11,13 @@ use Rattle.calc_model.specs.declared.fault.Fault.TheVariants.{BadValue, Over}
 use Rattle.calc_model.specs.declared.value.Value.{Value}
 use Rattle.calc_model.specs.declared.value.Value.TheVariants.{Number, Words, Bad, Blank}
 use Rattle.calc_model.specs.Meanings.{Meaning}
-use Rattle.calc_model.specs.Operators.{from_ok, kept_words, truth}
+use Rattle.calc_model.specs.Operators.{from_ok, kept_words, truth, value_of}
 use Rattle.calc_model.specs.Parameters.{all_ok, text, whole}
 use Rattle.std.specs.Prelude.{map}
 
--- a number of things
+-- a number of things, where it lies in the range of numbers
 abbrev pub counted : ℕ → Value
-counted count = Number (pos (count * 10 ^ 9))
+counted count = value_of (checked (pos (count * 10 ^ 9)))
 
 -- the value for a number that isn't negative
 abbrev pub if_not_negative : ℤ → (ℕ → Value) → Value

@@ -1,5 +1,5 @@
 //! Results as values, and parameters as they are.
-ghost use Rattle.std.specs.Prelude.{◌≡◌, ◌<◌, ◌^◌, IfOk};
+ghost use Rattle.std.specs.Prelude.{◌≡◌, IfOk};
 ghost use Rattle.calc_model.specs.Arguments.{meaning_of};
 ghost use Rattle.calc_model.specs.Operators.{fault_of, truth, value_of};
 ghost use Rattle.calc_model.specs.Texts.{counted};
@@ -15,10 +15,12 @@ const ONE: i128 = 1_000_000_000;
 
 /// A number of things.
 pub fn counted(count: u64) -> Value
-    requires { count < 10 ^ 18 }
     ensures { result ≡ counted count }
 {
-    Value::Number(Num::from_raw(i128::from(count) * ONE).unwrap())
+    match Num::from_raw(i128::from(count) * ONE) {
+        Some(number) => Value::Number(number),
+        None => Value::Bad(Fault::Over),
+    }
 }
 
 /// 1 or 0.

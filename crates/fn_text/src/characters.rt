@@ -8,9 +8,9 @@ ghost use Rattle.fn_text.specs.Splits.{IsLeft};
 use calc_addr::{Cell, NoMemory};
 use calc_model::{Arg, Fault, Value, Values};
 use fn_args::{counted, text};
-use std::alloc::{AllocError, Global};
+use std::alloc::Global;
 
-/// LEN: how many characters a text has. No memory holds one of 2^32.
+/// LEN: how many characters a text has.
 pub fn fn_len<V: Values>(
     alloc: Global,
     args: &[Arg],
@@ -22,10 +22,7 @@ pub fn fn_len<V: Values>(
     match args {
         [x] => match text(alloc, x, home, values)? {
             Err(fault) => Ok(Value::Bad(fault)),
-            Ok(words) => match u32::try_from(char_count(words.as_str())) {
-                Ok(count) => Ok(counted(u64::from(count))),
-                Err(_) => Err(AllocError),
-            },
+            Ok(words) => Ok(counted(char_count(words.as_str()) as u64)),
         },
         _ => Ok(Value::Bad(Fault::BadValue)),
     }
