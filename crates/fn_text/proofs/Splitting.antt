@@ -1,10 +1,10 @@
 -- Characters that are taken off a text one after the other.
-use Rattle.std.proofs.Common.{◌≡◌, ℕ, zero, suc, ◌+◌, ◌<◌, ◌≤◌, List, [], ◌∷◌, ◌++◌, drop, length, take, refl, sym, ap, subst, ◌∙◌, arith, append_assoc}
-use Rattle.std.specs.Str.{IsUtf8, chars, encode_utf8_all}
+use Rattle.std.proofs.Common.{◌≡◌, ℕ, zero, suc, ◌+◌, ◌-◌, ◌<◌, ◌≤◌, List, [], ◌∷◌, ◌++◌, drop, length, take, refl, sym, ap, subst, ◌∙◌, arith, append_assoc}
+use Rattle.std.specs.Str.{IsCharBoundary, IsUtf8, chars, encode_utf8_all}
 use Rattle.std.specs.Char.{encode_utf8}
 use Rattle.std.proofs.Math.Seq.{drop-append_seam, take-append_seam}
 use Rattle.std.proofs.lemmas.List.{append-nil, drop_all, length-append, nil_from_length, take_all}
-use Rattle.std.proofs.lemmas.Str.{IsUtf8-past_char, chars-nil, chars_past_char, encodes-chars}
+use Rattle.std.proofs.lemmas.Str.{IsCharBoundary-at_seam, IsUtf8-past_char, chars-nil, chars_past_char, encodes-chars}
 use Rattle.fn_text.specs.Splits.{IsLeft}
 
 pub record IsPast (text : List ℕ) (count : ℕ) (rest : List ℕ) : Type 0 where
@@ -39,6 +39,7 @@ pub at_end : (text : List ℕ) (count : ℕ) (rest : List ℕ) → IsPast text c
 at_end text count rest past = record {
   front = past.bytes ∙ ap (λ cs. encode_utf8_all cs ++ rest) (sym (ap (take count) past.characters ∙ ap (λ n. take n (past.front ++ chars rest)) (sym past.count_is) ∙ take-append_seam past.front (chars rest)));
   left = sym (encodes-chars rest past.valid) ∙ ap encode_utf8_all (sym (ap (drop count) past.characters ∙ ap (λ n. drop n (past.front ++ chars rest)) (sym past.count_is) ∙ drop-append_seam past.front (chars rest)));
+  characters = sym (ap (drop count) past.characters ∙ ap (λ n. drop n (past.front ++ chars rest)) (sym past.count_is) ∙ drop-append_seam past.front (chars rest));
 }
 
 -- nothing is left before all were taken
@@ -49,4 +50,18 @@ used_up text count most rest h none past =
     record {
       front = past.bytes ∙ ap (λ cs. encode_utf8_all cs ++ rest) (sym (ap (take most) all ∙ take_all most past.front (omega (arith, past.count_is, h))));
       left = nil ∙ ap encode_utf8_all (sym (ap (drop most) all ∙ drop_all most past.front (omega (arith, past.count_is, h))));
+      characters = ap chars nil ∙ chars-nil ∙ sym (ap (drop most) all ∙ drop_all most past.front (omega (arith, past.count_is, h)));
     }
+
+-- the bytes before what is left
+pub front-bytes : (text : List ℕ) (count : ℕ) (rest : List ℕ) → IsLeft text count rest → take (length text - length rest) text ≡ encode_utf8_all (take count (chars text))
+front-bytes text count rest left =
+    let front = encode_utf8_all (take count (chars text)) in
+    let size : length text - length rest ≡ length front = omega (arith, ap length left.front, length-append front rest) in
+    ap (λ n. take n text) size ∙ ap (take (length front)) left.front ∙ take-append_seam front rest
+
+pub boundary : (text : List ℕ) (count : ℕ) (rest : List ℕ) → IsUtf8 rest → IsLeft text count rest → IsCharBoundary text (length text - length rest)
+boundary text count rest valid left =
+    let front = encode_utf8_all (take count (chars text)) in
+    let size : length front ≡ length text - length rest = omega (arith, ap length left.front, length-append front rest) in
+    subst (IsCharBoundary text) size (IsCharBoundary-at_seam text front rest left.front valid)
