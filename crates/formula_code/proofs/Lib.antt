@@ -1,3 +1,0 @@
--- NodeLists: the nodes of trees. Building: nodes build their tree.
-pub mod Replaced
-pub mod NodeLists

@@ -1,2 +1,0 @@
--- The nodes of trees.
-use Rattle.std.proofs.Common.{◌≡◌, refl}
