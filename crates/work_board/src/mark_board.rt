@@ -1,12 +1,12 @@
 // The calls of a mark board.
 ghost use Rattle.std.specs.Prelude.{◌≡◌, ℕ, ◌+◌, ◌^◌, ◌<◌, ◌≤◌, length, true, false, IfOk, IsOkAnd};
-ghost use Rattle.work_board.specs.MarkViews.{first_view, new_view, with_listed, with_met, one_right_less, both};
-ghost use Rattle.work_board.specs.MarkViews.{IsMarkEnd};
-ghost use Rattle.work_board.specs.MarkPasses.{mark_view_of, IsMarkPassOf, IsFirstMark, IsLaterMark};
+ghost use Rattle.work_board.specs.Views.{first_view, new_view, with_listed, with_missed, one_right_less, both, IsMarkEnd};
+ghost use Rattle.work_board.specs.Passes.{mark_view_of, IsMarkPassOf, IsMark};
 
 use crate::NoMemory;
 use crate::mark_pass::{MarkBoard, MarkPass};
-use crate::mark_rule::{MarkJoins, MarkSplits, Marks};
+use crate::pass_view::{Joins, Splits};
+use crate::rules::Marks;
 use atomic_table::Table;
 use std::alloc::Global;
 
@@ -34,8 +34,9 @@ impl MarkBoard {
         requires own { IsMarkPassOf self.now pass.old }
         requires inside { bit < self.now.bits }
         ensures own { IsMarkPassOf self.now pass.new }
-        ensures first { result ≡ true → IsFirstMark bit pass.old pass.new }
-        ensures met { result ≡ false → IsLaterMark bit pass.old pass.new }
+        ensures event { IsMark bit (mark_view_of pass.old) result (mark_view_of pass.new) }
+        ensures first { result ≡ true → mark_view_of pass.new ≡ with_listed bit (mark_view_of pass.old) }
+        ensures met { result ≡ false → mark_view_of pass.new ≡ with_missed bit (mark_view_of pass.old) }
         ensures room { length (mark_view_of pass.new).listed ≤ self.now.bits }
     {
         let mask = 1 << (bit % WORD_BITS);
@@ -57,7 +58,7 @@ impl MarkBoard {
         ensures new_own { IsOkAnd result (λ new. IsMarkPassOf self.now new) }
         ensures new { IsOkAnd result (λ new. mark_view_of new ≡ new_view self.now.bits) }
     {
-        let seat = self.table.shared.split_seat::<MarkSplits>(&mut pass.seat);
+        let seat = self.table.shared.split_seat::<Splits>(&mut pass.seat);
         Ok(MarkPass { seat })
     }
 
@@ -70,9 +71,7 @@ impl MarkBoard {
         ensures both { mark_view_of into.new ≡ both (mark_view_of into.old) (mark_view_of other) }
     {
         let MarkPass { seat } = other;
-        self.table
-            .shared
-            .join_seat::<MarkJoins>(&mut into.seat, seat);
+        self.table.shared.join_seat::<Joins>(&mut into.seat, seat);
     }
 
     /// Ends the board, once every pass that was split off is joined.

@@ -1,5 +1,6 @@
 ghost use Rattle.std.specs.Prelude.{◌≡◌};
-ghost use Rattle.work_board.specs.DrawPasses.{view_of, IsPassOf};
+ghost use Rattle.work_board.specs.Passes.{view_of, IsPassOf};
+ghost use Rattle.work_board.specs.Views.{nones};
 
 use crate::{DrawBoard, DrawPass, MarkBoard};
 use std::test::Fail;
@@ -32,7 +33,7 @@ fn the_second_pass_meets_a_marked_bit(rt: HostRuntime) -> Result<(), Fail> {
 
 fn sum_of_squares(board: &DrawBoard, mut pass: DrawPass) -> u64
     requires own { IsPassOf board.now pass }
-    requires open_ { (view_of pass).nones ≡ 0 }
+    requires open_ { nones (view_of pass) ≡ 0 }
 {
     let mut total: u64 = 0;
     while let Some(unit) = board.draw(&mut pass) {
@@ -52,7 +53,7 @@ fn four_workers_draw_all_units(rt: HostRuntime) -> Result<(), Fail> {
         &rt,
         passes,
         &|pass: DrawPass| -> u64
-            requires { IsPassOf board pass × ((view_of pass).nones ≡ 0) }
+            requires { IsPassOf board pass × (nones (view_of pass) ≡ 0) }
         { sum_of_squares(&board, pass) },
     )?;
     let mut total: u64 = 0;
