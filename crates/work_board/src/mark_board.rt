@@ -78,7 +78,7 @@ impl MarkBoard {
     pub fn close(self, pass: MarkPass)
         requires own { IsMarkPassOf self pass }
         requires joined { (mark_view_of pass).passes + (mark_view_of pass).rights ≡ 65 }
-        ensures { IsMarkEnd self.bits (mark_view_of pass) }
+        ensures marked { IsMarkEnd self.bits (mark_view_of pass) }
     {
         let MarkBoard { table, bits: _ } = self;
         let MarkPass { seat } = pass;
