@@ -19,7 +19,7 @@ module _ (size : ℕ) (taken : ℕ → ℕ) (views : List PassView) (r : IsShare
   -- the pass that holds all passes knows all that was taken or missed
   pub all_known : v.passes + v.rights ≡ 65 → (f : PassView → ℕ) → ((u : PassView) → u.listed ≡ [] → u.missed ≡ [] → f u ≡ 0) → sum_by f views ≡ f v
   all_known whole f none =
-      alone f (λ u. u.passes + u.rights) views seat v at
+      alone f (λ u. u.passes + u.rights) views seat v at refl (none spent_view refl refl)
       (λ j u e light. let empty = r.spent j u e (omega arith) in none u empty.0 empty.1)
       (omega (arith, r.parts))
 
