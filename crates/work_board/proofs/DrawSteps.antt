@@ -3,7 +3,7 @@ use Rattle.std.proofs.Common.{◌≡◌, ℕ, ◌+◌, ◌%◌, ◌^◌, ◌<◌
 use Rattle.std.proofs.lemmas.Bool.Decides.{nat_tests}
 use mathlib.Core.Option.{none, some}
 use lib.ListN.{get_elem?}
-use Rattle.atomic_table.specs.Table.{State, Me, step, keeps, Allows, Splits, Joins}
+use Rattle.atomic_table.specs.Table.{State, Me, step, keeps, Allows}
 use Rattle.atomic_table.proofs.Lists.{at_set}
 use Rattle.work_board.specs.declared.pass_view.PassView.{PassView}
 use Rattle.work_board.specs.Views.{spent_view, new_view, with_listed, with_none, nones, one_right_less, both, IsDrawEnd}
@@ -55,7 +55,7 @@ module _ (units word : ℕ) (views : List PassView) (r : IsDrawn units word view
   drew open_ true is = took (grind (arith, nat_tests))
   drew open_ false is = refused open_ (grind (arith, nat_tests))
 
-  cut_drawn : 0 < v.rights → IsDrawn units word (set views seat (one_right_less v) ++ new_view v.size ∷ [])
+  pub cut_drawn : 0 < v.rights → IsDrawn units word (set views seat (one_right_less v) ++ new_view v.size ∷ [])
   cut_drawn right = record {
     small = r.small;
     shared = cut units taken views r.shared seat v at unspent right;
@@ -67,7 +67,7 @@ module _ (units word : ℕ) (views : List PassView) (r : IsDrawn units word view
     at_other : get_elem? views other ≡ some w
     at_other = ⊎_elim (λ h. absurd (apart h.0)) (λ h. h.1) (at_set views seat other (both v w) w there)
 
-    join_drawn : IsDrawn units word (set (set views seat (both v w)) other spent_view)
+    pub join_drawn : IsDrawn units word (set (set views seat (both v w)) other spent_view)
     join_drawn =
         let a = r.few seat v at in
         let b = r.few other w at_other in
@@ -110,12 +110,6 @@ module _ (units seat : ℕ) (v : PassView) (of_ : v.size ≡ units) (unspent : 0
         placed units ((n + 1) % 2 ^ 64) s.words (set s.views seat w) r.0 (subst (λ k. IsDrawn units k (set s.views seat w)) next d),
         (rw (is, of_) long, rw is refl, refl),
       )
-
-  pub splits : 0 < v.rights → Splits (Holds units) seat v (one_right_less v) (new_view v.size)
-  splits right s r at = (r.0, cut_drawn units (get_or s.words 0 0) s.views r.1 seat v at unspent right)
-
-  pub joins : (other : ℕ) (w : PassView) → Joins (Holds units) seat v other w (both v w) spent_view
-  joins other w s r at apart there = (r.0, join_drawn units (get_or s.words 0 0) s.views r.1 seat v at unspent other w apart there)
 
   pub ends : v.passes + v.rights ≡ 65 → (words : List ℕ) (views : List PassView) → IsDrawBoard units words views → get_elem? views seat ≡ some v → IsDrawEnd units v
   ends whole words views rule at =

@@ -7,7 +7,7 @@ use mathlib.Core.Logic.{dite}
 use mathlib.Core.Option.{none, some}
 use native.Mathlib.Decide.{ℕ_discrete}
 use lib.ListN.{get_elem?}
-use Rattle.atomic_table.specs.Table.{State, Me, step, keeps, Allows, Splits, Joins}
+use Rattle.atomic_table.specs.Table.{State, Me, step, keeps, Allows}
 use Rattle.work_board.specs.declared.pass_view.PassView.{PassView}
 use Rattle.work_board.specs.Counts.{times, once_below}
 use Rattle.work_board.specs.Views.{spent_view, new_view, with_listed, with_missed, one_right_less, both, IsMarkEnd}
@@ -69,14 +69,14 @@ module _ (bits : ℕ) (words : List ℕ) (views : List PassView) (r : IsMarkBoar
     did true is = after_first (grind (arith, nat_tests))
     did false is = after_met (let lt = bit_at-lt (get_or words (bit / 64) 0) (bit % 64) in let some_ : bit_of words bit ≢ 0 = grind (arith, nat_tests) in omega (arith, lt))
 
-  cut_marked : 0 < v.rights → IsMarkBoard bits words (set views seat (one_right_less v) ++ new_view v.size ∷ [])
+  pub cut_marked : 0 < v.rights → IsMarkBoard bits words (set views seat (one_right_less v) ++ new_view v.size ∷ [])
   cut_marked right = record {
     room = r.room;
     shared = cut bits (bit_of words) views r.shared seat v at unspent right;
     met = λ k some_. let t = total_cut (λ u. times k u.missed) views seat v (one_right_less v) (new_view v.size) at (omega arith) in r.met k (omega (arith, t, some_));
   }
 
-  join_marked : (other : ℕ) (w : PassView) → get_elem? (set views seat (both v w)) other ≡ some w → IsMarkBoard bits words (set (set views seat (both v w)) other spent_view)
+  pub join_marked : (other : ℕ) (w : PassView) → get_elem? (set views seat (both v w)) other ≡ some w → IsMarkBoard bits words (set (set views seat (both v w)) other spent_view)
   join_marked other w there = record {
     room = r.room;
     shared = joined bits (bit_of words) views r.shared seat v at unspent other w there;
@@ -107,12 +107,6 @@ module _ (bits seat : ℕ) (v : PassView) (of_ : v.size ≡ bits) (unspent : 0 <
           λ k word mask. rw is (ap (λ j. marked j n v) (sym (same_bit k bit word (same_power (k % 64) (bit % 64) mask)))),
         ),
       )
-
-  pub splits : 0 < v.rights → Splits (Holds bits) seat v (one_right_less v) (new_view v.size)
-  splits right s r at = cut_marked bits s.words s.views r seat v at unspent right
-
-  pub joins : (other : ℕ) (w : PassView) → Joins (Holds bits) seat v other w (both v w) spent_view
-  joins other w s r at apart there = join_marked bits s.words s.views r seat v at unspent other w there
 
   pub ends : v.passes + v.rights ≡ 65 → (words : List ℕ) (views : List PassView) → IsMarkBoard bits words views → get_elem? views seat ≡ some v → IsMarkEnd bits v
   ends whole words views r at =

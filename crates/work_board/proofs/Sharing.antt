@@ -4,7 +4,7 @@ use mathlib.Core.Option.{some}
 use lib.ListN.{get_elem?}
 use Rattle.work_board.specs.declared.pass_view.PassView.{PassView}
 use Rattle.work_board.specs.Views.{spent_view, new_view, one_right_less, both}
-use Rattle.work_board.specs.Rules.{IsOfSize, EmptyIfSpent, IsShared}
+use Rattle.work_board.specs.Rules.{IsOfBoard, IsShared}
 use Rattle.work_board.specs.Counts.{times, once_below}
 use Rattle.work_board.proofs.Totals.{times_both, total_has, total_set, total_cut, total_joined, alone, each_set, each_snoc}
 use Rattle.work_board.proofs.Distinct.{at_most}
@@ -20,7 +20,7 @@ module _ (size : ℕ) (taken : ℕ → ℕ) (views : List PassView) (r : IsShare
   pub all_known : v.passes + v.rights ≡ 65 → (f : PassView → ℕ) → ((u : PassView) → u.listed ≡ [] → u.missed ≡ [] → f u ≡ 0) → sum_by f views ≡ f v
   all_known whole f none =
       alone f (λ u. u.passes + u.rights) views seat v at refl (none spent_view refl refl)
-      (λ j u e light. let empty = r.spent j u e (omega arith) in none u empty.0 empty.1)
+      (λ j u e light. let empty = (r.own j u e).spent (omega arith) in none u empty.0 empty.1)
       (omega (arith, r.parts))
 
   module _ (unspent : 0 < v.passes) where
@@ -28,8 +28,7 @@ module _ (size : ℕ) (taken : ℕ → ℕ) (views : List PassView) (r : IsShare
     pub changed : (w : PassView) → w.size ≡ v.size → w.passes ≡ v.passes → w.rights ≡ v.rights → (now : ℕ → ℕ) → ((x : ℕ) → now x ≤ once_below x size)
         → ((x : ℕ) → now x + times x v.listed ≡ taken x + times x w.listed) → IsShared size now (set views seat w)
     changed w sized held right now within more = record {
-      same = each_set (IsOfSize size) views seat w r.same (λ _. sized ∙ r.same seat v at unspent);
-      spent = each_set EmptyIfSpent views seat w r.spent (λ none. absurd (omega arith));
+      own = each_set (IsOfBoard size) views seat w r.own (record { same = λ _. sized ∙ (r.own seat v at).same unspent; spent = λ none. absurd (omega arith) });
       listed = λ x. let t = total_set (λ u. times x u.listed) views seat v w at in omega (arith, t, r.listed x, more x);
       within = within;
       parts = let t = total_set (λ u. u.passes + u.rights) views seat v w at in omega (arith, t, r.parts);
@@ -39,11 +38,10 @@ module _ (size : ℕ) (taken : ℕ → ℕ) (views : List PassView) (r : IsShare
     cut right =
         let left = one_right_less v in
         let new = new_view v.size in
-        let sized = r.same seat v at unspent in
-        let none = r.spent seat v at in
+        let mine = r.own seat v at in
         record {
-          same = each_snoc (IsOfSize size) (set views seat left) new (each_set (IsOfSize size) views seat left r.same (λ _. sized)) (λ _. sized);
-          spent = each_snoc EmptyIfSpent (set views seat left) new (each_set EmptyIfSpent views seat left r.spent none) (λ _. (refl, refl));
+          own = each_snoc (IsOfBoard size) (set views seat left) new
+              (each_set (IsOfBoard size) views seat left r.own (record { same = mine.same; spent = mine.spent })) (record { same = λ _. mine.same unspent; spent = λ _. (refl, refl) });
           listed = λ x. total_cut (λ u. times x u.listed) views seat v left new at (omega arith) ∙ r.listed x;
           within = r.within;
           parts = total_cut (λ u. u.passes + u.rights) views seat v left new at (omega arith) ∙ r.parts;
@@ -53,10 +51,10 @@ module _ (size : ℕ) (taken : ℕ → ℕ) (views : List PassView) (r : IsShare
       pub joined : IsShared size taken (set (set views seat (both v w)) other spent_view)
       joined =
           let sum = both v w in
-          let sized = r.same seat v at unspent in
           record {
-            same = each_set (IsOfSize size) (set views seat sum) other spent_view (each_set (IsOfSize size) views seat sum r.same (λ _. sized)) (λ h. absurd (omega arith));
-            spent = each_set EmptyIfSpent (set views seat sum) other spent_view (each_set EmptyIfSpent views seat sum r.spent (λ none. absurd (omega arith))) (λ _. (refl, refl));
+            own = each_set (IsOfBoard size) (set views seat sum) other spent_view
+                (each_set (IsOfBoard size) views seat sum r.own (record { same = λ _. (r.own seat v at).same unspent; spent = λ none. absurd (omega arith) }))
+                (record { same = λ some_. absurd (omega arith); spent = λ _. (refl, refl) });
             listed = λ x. total_joined (λ u. times x u.listed) views seat other v w sum spent_view at there (omega (arith, times_both x v.listed w.listed)) ∙ r.listed x;
             within = r.within;
             parts = total_joined (λ u. u.passes + u.rights) views seat other v w sum spent_view at there (omega arith) ∙ r.parts;

@@ -12,19 +12,17 @@ use Rattle.work_board.specs.Counts.{times, once_below}
 abbrev pub Each : (PassView → Type 0) → List PassView → Type 0
 Each P views = (seat : ℕ) (v : PassView) → get_elem? views seat ≡ some v → P v
 
-abbrev pub IsOfSize : ℕ → PassView → Type 0
-IsOfSize size v = 0 < v.passes → v.size ≡ size
-
-abbrev pub EmptyIfSpent : PassView → Type 0
-EmptyIfSpent v = v.passes ≡ 0 → (v.listed ≡ []) × (v.missed ≡ [])
+-- a pass shows the board's size; one that was joined into another is empty
+pub record IsOfBoard (size : ℕ) (v : PassView) : Type 0 where
+  pub same : 0 < v.passes → v.size ≡ size
+  pub spent : v.passes ≡ 0 → (v.listed ≡ []) × (v.missed ≡ [])
 
 abbrev pub HasFewNones : PassView → Type 0
 HasFewNones v = nones v ≤ v.passes
 
 -- what both rules say: the passes list each number as often as it was taken
 pub record IsShared (size : ℕ) (taken : ℕ → ℕ) (views : List PassView) : Type 0 where
-  pub same : Each (IsOfSize size) views
-  pub spent : Each EmptyIfSpent views
+  pub own : Each (IsOfBoard size) views
   pub listed : (x : ℕ) → sum_by (λ v. times x v.listed) views ≡ taken x
   pub within : (x : ℕ) → taken x ≤ once_below x size
   pub parts : sum_by (λ v. v.passes + v.rights) views ≡ 65
