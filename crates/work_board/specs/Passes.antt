@@ -26,12 +26,12 @@ IsDraw units old result new =
     (next : ℕ) × (result ≡ answer units next)
     × (worker_of new ≡ after_draw units next (worker_of old))
 
-abbrev pub mark_view_of : MarkPass → PassView
-mark_view_of pass = pass.seat.me.0
+abbrev pub mark_view : MarkPass → PassView
+mark_view pass = pass.seat.me.0
 
 abbrev pub IsMarkPassOf : MarkBoard → MarkPass → Type 0
 IsMarkPassOf board pass =
-    (pass.seat.table_id ≡ board.table.shared.table_id) × ((mark_view_of pass).size ≡ board.bits)
+    (pass.seat.table_id ≡ board.table.shared.table_id) × ((mark_view pass).size ≡ board.bits)
 
 -- a mark is the machine's event of some worker, whose bits are those that the pass lists
 abbrev pub IsMark : ℕ → PassView → Bool → PassView → Type 0
