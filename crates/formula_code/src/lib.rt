@@ -1,0 +1,8 @@
+//! Formulas as arrays of tokens in postfix order, relative to their cell, each form kept once.
+#![tactic(auto)]
+
+mod node;
+mod relative;
+
+pub use node::Node;
+pub use relative::RelativeRef;
