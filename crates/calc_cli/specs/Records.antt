@@ -7,7 +7,7 @@ use Rattle.csv.specs.Writing.{default_writer, row_text}
 use Rattle.calc_addr.specs.Places.{Place, Rectangle, places, rows_of}
 use Rattle.calc_model.specs.Books.{Book, content_at}
 use Rattle.calc_model.specs.Printed.{printed_content}
-use Rattle.calc_model.specs.Scalars.{Values}
+use Rattle.calc_model.specs.Scalars.{CellValues}
 use Rattle.calc_model.specs.ValueTexts.{text_of}
 
 abbrev pub record_text : List (List ℕ) → List ℕ
@@ -18,7 +18,7 @@ abbrev pub Texts : Type 0
 Texts = Place → List ℕ
 
 -- the texts of what the cells show, and of what they hold
-abbrev pub shown_texts : Values → Texts
+abbrev pub shown_texts : CellValues → Texts
 shown_texts values cell = text_of (values cell)
 
 abbrev pub held_texts : Book → Texts

@@ -15,7 +15,7 @@ use Rattle.calc_model.specs.declared.tree.Op.TheVariants.{Add}
 use Rattle.calc_model.specs.declared.tree.Tree.{Tree}
 use Rattle.calc_model.specs.declared.tree.Tree.TheVariants as t
 use Rattle.calc_model.specs.Reads.{Names}
-use Rattle.calc_model.specs.Scalars.{Values, scalar_at, on_numbers, one_col, one_row}
+use Rattle.calc_model.specs.Scalars.{CellValues, scalar_at, on_numbers, one_col, one_row}
 use Rattle.calc_model.specs.Eval.{Shape, shape_step, shape, is_one, both_cells, is_one_cell, is_built, Meaning, meaning, meaning_step, binary, eval}
 use Rattle.calc_model.proofs.TreeFolds as fold
 
@@ -111,7 +111,7 @@ pub built-Add : (x y : Tree) → is_built (t.Binary Add x y) ≡ (is_one_cell x 
 unfolding is_one_cell
 built-Add x y = built-Binary Add x y
 
-module _ (home : Place) (names : Names) (values : Values) where
+module _ (home : Place) (names : Names) (values : CellValues) where
   -- the value of a sum of two references to one cell each
   pub eval_sum : (a b : Reference) → is_one a.span ≡ true → is_one b.span ≡ true → eval home names values (t.Binary Add (t.Ref a) (t.Ref b)) ≡ on_numbers (λ n m. checked (n +ℤ m)) (scalar_at (here a home) home values) (scalar_at (here b home) home values)
   eval_sum a b one other =
@@ -132,7 +132,7 @@ on_sheet r home true = (refl, refl)
 on_sheet r home false = (refl, refl)
 
 -- what a reference to one cell gives is that cell's value
-pub scalar_of_one : (r : Reference) (home : Place) (values : Values) → IsReference r → is_one r.span ≡ true → scalar_at (here r home) home values ≡ values (corner (here r home))
+pub scalar_of_one : (r : Reference) (home : Place) (values : CellValues) → IsReference r → is_one r.span ≡ true → scalar_at (here r home) home values ≡ values (corner (here r home))
 scalar_of_one r home values is one =
     let single : IsOne r.area r.marks = by_span r.span r.area r.marks is.spanned one in
     let col : one_col (here r home) ≡ true = (on_sheet r home r.marks.sheet).0 ∙ eq-eqb r.area.first_col r.area.last_col single.one_col in

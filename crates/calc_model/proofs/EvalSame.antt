@@ -11,21 +11,21 @@ use Rattle.calc_model.specs.declared.tree.Tree.TheOpen.{Tree-F}
 use Rattle.calc_model.specs.declared.looked.Looked.{Looked}
 use Rattle.calc_model.specs.declared.looked.Looked.TheVariants.{Absent, Gone, At}
 use Rattle.calc_model.specs.Reads.{Names, areas, areas_step, named_areas}
-use Rattle.calc_model.specs.Scalars.{Values, scalar_at, if_covered, one_col, one_row}
+use Rattle.calc_model.specs.Scalars.{CellValues, scalar_at, if_covered, one_col, one_row}
 use Rattle.calc_model.specs.Eval.{Meaning, meaning, meaning_step, meaning_of_area, meaning_of_name, scalar_alone, binary, eval, is_built, values_in}
 use Rattle.calc_model.proofs.Areas.{all_places, both_true}
 use Rattle.calc_model.proofs.TreeFolds as fold
 use Rattle.calc_model.proofs.TreeInduction.{Cases, tree_ind}
 
 -- two books' values are the same in these areas
-abbrev pub Agree : Values → Values → List Rectangle → Type 0
+abbrev pub Agree : CellValues → CellValues → List Rectangle → Type 0
 Agree v w = AllByRecursion (λ a. (q : Place) → covers a q ≡ true → v q ≡ w q)
 
-agree_front : (v w : Values) (xs ys : List Rectangle) → Agree v w (xs ++ ys) → Agree v w xs
+agree_front : (v w : CellValues) (xs ys : List Rectangle) → Agree v w (xs ++ ys) → Agree v w xs
 agree_front v w [] ys h = tt
 agree_front v w (x ∷ xs) ys h = (h.0, agree_front v w xs ys h.1)
 
-agree_back : (v w : Values) (xs ys : List Rectangle) → Agree v w (xs ++ ys) → Agree v w ys
+agree_back : (v w : CellValues) (xs ys : List Rectangle) → Agree v w (xs ++ ys) → Agree v w ys
 agree_back v w [] ys h = h
 agree_back v w (x ∷ xs) ys h = agree_back v w xs ys h.1
 
@@ -37,7 +37,7 @@ cond_same false x y z u h k = k refl
 corner_covered : (a : Rectangle) → (one_col a && one_row a) ≡ true → covers a (record { sheet = a.sheet; col = a.first_col; row = a.first_row }) ≡ true
 corner_covered a e = grind (arith, nat_tests)
 
-module _ (v w : Values) where
+module _ (v w : CellValues) where
   covered_same : (a : Rectangle) (p : Place) → ((q : Place) → covers a q ≡ true → v q ≡ w q) → if_covered a p v ≡ if_covered a p w
   covered_same a p h = cond_same (covers a p) (v p) (w p) (Bad BadValue) (Bad BadValue) (h p) (λ _. refl)
 
@@ -62,7 +62,7 @@ module _ (v w : Values) where
   unfolding values_in
   values_same a h = map_same (covers a) h (places a) (all_places (covers a) a (λ q c. c))
 
-module _ (home : Place) (names : Names) (v w : Values) where
+module _ (home : Place) (names : Names) (v w : CellValues) where
   -- the meaning is the same where the values are the same in all that is read
   Claim : Tree → Type 0
   Claim x = Agree v w (areas home names x) → meaning home names v x ≡ meaning home names w x

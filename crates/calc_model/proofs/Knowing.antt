@@ -10,7 +10,7 @@ use Rattle.calc_model.specs.declared.tree.Tree.{Tree}
 use Rattle.calc_model.specs.Books.{Book, content_at, area_named, is_formula, formula_count}
 use Rattle.calc_model.specs.Reads.{Names, reads, areas, content_areas}
 use Rattle.calc_model.specs.Grounded.{all_cells, is_grounded, is_circular}
-use Rattle.calc_model.specs.Scalars.{Values}
+use Rattle.calc_model.specs.Scalars.{CellValues}
 use Rattle.calc_model.specs.Eval.{eval, top}
 use Rattle.calc_model.specs.Val.{cell_value, val}
 use Rattle.calc_model.specs.Results.{Results, shown_content, shown_by, is_known, is_ready, IsSound, IsFinished, ShowsAll, Sets}
@@ -19,7 +19,7 @@ use Rattle.calc_model.proofs.Places.{same_places}
 use Rattle.calc_model.proofs.Rounds.{all_cells_more, grounded_constant, not_circular, grounded_by_reads}
 use Rattle.calc_model.proofs.Shown.{agree_by, val_by_reads, shows_its_value, shows_its_circle}
 
-shown_constant : (names : Names) (b : Bool) (v : Values) (p : Place) (o : Option Value) (x : Content) → is_formula x ≡ false → shown_content o x ≡ cell_value names b v p x
+shown_constant : (names : Names) (b : Bool) (v : CellValues) (p : Place) (o : Option Value) (x : Content) → is_formula x ≡ false → shown_content o x ≡ cell_value names b v p x
 shown_constant names b v p o Empty h = refl
 shown_constant names b v p o (Constant value) h = refl
 shown_constant names b v p o (Raw text) h = refl

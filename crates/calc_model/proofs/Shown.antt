@@ -10,7 +10,7 @@ use Rattle.calc_model.specs.declared.content.Content.TheVariants.{Empty, Constan
 use Rattle.calc_model.specs.Books.{Book, content_at, area_named, is_formula, formula_count}
 use Rattle.calc_model.specs.Reads.{Names, reads, areas, content_areas}
 use Rattle.calc_model.specs.Grounded.{all_cells, is_grounded, is_circular}
-use Rattle.calc_model.specs.Scalars.{Values}
+use Rattle.calc_model.specs.Scalars.{CellValues}
 use Rattle.calc_model.specs.Eval.{top}
 use Rattle.calc_model.specs.Val.{cell_value, after_rounds, val}
 use Rattle.calc_model.specs.FixedPoint.{ShowsItsValue, ShowsItsCircle}
@@ -19,21 +19,21 @@ use Rattle.calc_model.proofs.EvalSame.{Agree, eval_same}
 use Rattle.calc_model.proofs.Rounds.{not_circular}
 
 -- values that are the same at each cell that passes a test agree in areas whose cells all pass it
-pub agree_by : (passes : Place → Bool) (v w : Values) → ((q : Place) → passes q ≡ true → v q ≡ w q) → (areas : List Rectangle) → all_cells passes areas ≡ true → Agree v w areas
+pub agree_by : (passes : Place → Bool) (v w : CellValues) → ((q : Place) → passes q ≡ true → v q ≡ w q) → (areas : List Rectangle) → all_cells passes areas ≡ true → Agree v w areas
 agree_by passes v w same [] h = tt
 agree_by passes v w same (a ∷ areas) h =
     let parts = both_true (list_all passes (places a)) (all_cells passes areas) h in
     (λ q c. same q (places_all passes a parts.0 q c), agree_by passes v w same areas parts.1)
 
 -- what a cell shows depends on what it reads
-pub cell_value_same : (names : Names) (circular : Bool) (v w : Values) (p : Place) (x : Content) → Agree v w (content_areas p names x) → cell_value names circular v p x ≡ cell_value names circular w p x
+pub cell_value_same : (names : Names) (circular : Bool) (v w : CellValues) (p : Place) (x : Content) → Agree v w (content_areas p names x) → cell_value names circular v p x ≡ cell_value names circular w p x
 cell_value_same names circular v w p Empty h = refl
 cell_value_same names circular v w p (Constant value) h = refl
 cell_value_same names circular v w p (Raw text) h = refl
 cell_value_same names circular v w p (Formula tree) h = ap (λ x. cond circular (Bad Circular) (top x)) (eval_same p names v w tree h)
 
 -- a cell that holds no formula shows the same in every round
-constant_same : (names : Names) (a b : Bool) (v w : Values) (p : Place) (x : Content) → is_formula x ≡ false → cell_value names a v p x ≡ cell_value names b w p x
+constant_same : (names : Names) (a b : Bool) (v w : CellValues) (p : Place) (x : Content) → is_formula x ≡ false → cell_value names a v p x ≡ cell_value names b w p x
 constant_same names a b v w p Empty h = refl
 constant_same names a b v w p (Constant value) h = refl
 constant_same names a b v w p (Raw text) h = refl
@@ -62,7 +62,7 @@ module _ (book : Book) where
   last_round : (p : Place) → val book p ≡ cell_value (area_named book) (is_circular book p) (after_rounds book (formula_count book)) p (content_at book p)
   last_round p = ap (λ n. after_rounds book n p) one_more
 
-  circle_same : (v w : Values) (p : Place) (x : Content) → cell_value (area_named book) true v p x ≡ cell_value (area_named book) true w p x
+  circle_same : (v w : CellValues) (p : Place) (x : Content) → cell_value (area_named book) true v p x ≡ cell_value (area_named book) true w p x
   circle_same v w p Empty = refl
   circle_same v w p (Constant value) = refl
   circle_same v w p (Raw text) = refl

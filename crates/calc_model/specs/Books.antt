@@ -22,11 +22,15 @@ use Rattle.calc_model.specs.Tokens.{has_no_small_letter, is_name}
 abbrev pub Target : Type 0
 Target = Option Rectangle
 
+-- names with what they stand for
+abbrev pub NameEntries : Type 0
+NameEntries = List (List ℕ × Target)
+
 -- Both maps are lists of their entries in rising order: cells in the order of cells, and names, which
 -- stand in ASCII capitals, by their bytes.
 pub record Book : Type 0 where
   pub cells : List (Place × Content)
-  pub names : List (List ℕ × Target)
+  pub names : NameEntries
 
 -- what the cell holds
 unfoldable pub content_at : Book → Place → Content
@@ -47,9 +51,13 @@ looked_up None = Absent
 looked_up (Some None) = Gone
 looked_up (Some (Some area)) = At area
 
--- what the name stands for, in capitals or not
-unfoldable pub area_named : Book → List ℕ → Looked
-area_named book name = looked_up (find (slice_cmp nat_cmp) (str_to_ascii_uppercase name) book.names)
+-- what the name stands for by these entries, in capitals or not
+unfoldable pub entry_named : NameEntries → List ℕ → Looked
+entry_named entries name = looked_up (find (slice_cmp nat_cmp) (str_to_ascii_uppercase name) entries)
+
+-- what the name stands for in the book
+abbrev pub area_named : Book → List ℕ → Looked
+area_named book = entry_named book.names
 
 abbrev pub is_formula : Content → Bool
 is_formula (Formula tree) = true

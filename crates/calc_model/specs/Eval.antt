@@ -16,14 +16,14 @@ use Rattle.calc_model.specs.declared.tree.Tree.{Tree}
 use Rattle.calc_model.specs.declared.tree.Tree.TheOpen.{Tree-F}
 use Rattle.calc_model.specs.declared.tree.Tree.TheFolds.{fold-Tree}
 use Rattle.calc_model.specs.Reads.{Names}
-use Rattle.calc_model.specs.Scalars.{Values, scalar_at, on_numbers}
+use Rattle.calc_model.specs.Scalars.{CellValues, scalar_at, on_numbers}
 
 -- an area, and the values of its cells in area order
 pub record ValuedArea : Type 0 where
   pub area : Rectangle
   pub values : List Value
 
-unfoldable pub values_in : Values → Rectangle → List Value
+unfoldable pub values_in : CellValues → Rectangle → List Value
 values_in values area = map values (places area)
 
 -- What a part of a formula is to the part around it: the value in a place that takes one value, and
@@ -40,7 +40,7 @@ abbrev pub binary : Op → Value → Value → Value
 binary Add left right = on_numbers (λ n m. checked (n +ℤ m)) left right
 binary _ left right = Bad Syntax
 
-module _ (home : Place) (names : Names) (values : Values) where
+module _ (home : Place) (names : Names) (values : CellValues) where
   abbrev pub meaning_of_area : Rectangle → Meaning
   meaning_of_area area = record {
     scalar = scalar_at area home values;
@@ -98,7 +98,7 @@ unfoldable pub is_built : Tree → Bool
 is_built tree = (shape tree).built
 
 -- the value of a formula at home
-abbrev pub eval : Place → Names → Values → Tree → Value
+abbrev pub eval : Place → Names → CellValues → Tree → Value
 eval home names values tree = if is_built tree then (meaning home names values tree).scalar else Bad Syntax
 
 -- A formula whose result is blank shows 0.

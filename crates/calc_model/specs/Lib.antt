@@ -18,3 +18,8 @@ pub mod OverFields
 pub mod Step
 pub mod Touched
 pub mod Stale
+pub mod Counters
+pub mod Ears
+pub mod Listeners
+pub mod TreeShifts
+pub mod UsedCells

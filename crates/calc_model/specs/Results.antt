@@ -11,7 +11,7 @@ use Rattle.calc_model.specs.declared.tree.Tree.{Tree}
 use Rattle.calc_model.specs.Books.{Book, content_at, area_named, is_formula}
 use Rattle.calc_model.specs.Grounded.{all_cells, is_circular}
 use Rattle.calc_model.specs.Reads.{reads, areas}
-use Rattle.calc_model.specs.Scalars.{Values}
+use Rattle.calc_model.specs.Scalars.{CellValues}
 use Rattle.calc_model.specs.Val.{val}
 
 abbrev pub Results : Type 0
@@ -24,7 +24,7 @@ shown_content result (Constant value) = value
 shown_content result (Raw text) = Bad Syntax
 shown_content result (Formula tree) = unwrap_or result (Bad Circular)
 
-abbrev pub shown_by : Book → Results → Values
+abbrev pub shown_by : Book → Results → CellValues
 shown_by book results cell = shown_content (results cell) (content_at book cell)
 
 -- whether what the cell shows is known: it holds no formula, or has a result

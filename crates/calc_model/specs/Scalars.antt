@@ -9,8 +9,8 @@ use Rattle.calc_model.specs.declared.value.Value.{Value}
 use Rattle.calc_model.specs.declared.value.Value.TheVariants.{Number, Words, Bad, Blank}
 
 -- what each cell shows
-abbrev pub Values : Type 0
-Values = Place → Value
+abbrev pub CellValues : Type 0
+CellValues = Place → Value
 
 -- A number is itself and blank is 0. A text is no number, and an error is itself.
 abbrev pub number_of : Value → Result ℤ Fault
@@ -45,13 +45,13 @@ one_col a = a.first_col == a.last_col
 abbrev pub one_row : Rectangle → Bool
 one_row a = a.first_row == a.last_row
 
-abbrev pub if_covered : Rectangle → Place → Values → Value
+abbrev pub if_covered : Rectangle → Place → CellValues → Value
 if_covered a place values = if covers a place then values place else Bad BadValue
 
 -- What an area gives a formula at home: its cell where it has one; where it has one column, the cell in
 -- the formula's row; where it has one row, the cell in the formula's column. It is no value where that
 -- cell isn't in it, or where it has several rows and columns.
-abbrev pub scalar_at : Rectangle → Place → Values → Value
+abbrev pub scalar_at : Rectangle → Place → CellValues → Value
 scalar_at a home values =
     if one_col a && one_row a then values (record { sheet = a.sheet; col = a.first_col; row = a.first_row })
     else (if one_col a then if_covered a (record { sheet = a.sheet; col = a.first_col; row = home.row }) values

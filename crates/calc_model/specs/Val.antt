@@ -11,11 +11,11 @@ use Rattle.calc_model.specs.declared.content.Content.TheVariants.{Empty, Constan
 use Rattle.calc_model.specs.Books.{Book, content_at, area_named, formula_count}
 use Rattle.calc_model.specs.Reads.{Names}
 use Rattle.calc_model.specs.Grounded.{is_circular}
-use Rattle.calc_model.specs.Scalars.{Values}
+use Rattle.calc_model.specs.Scalars.{CellValues}
 use Rattle.calc_model.specs.Eval.{eval, top}
 
 -- what a cell shows over the values of the cells that it reads
-abbrev pub cell_value : Names → Bool → Values → Place → Content → Value
+abbrev pub cell_value : Names → Bool → CellValues → Place → Content → Value
 cell_value names circular values cell Empty = Blank
 cell_value names circular values cell (Constant value) = value
 cell_value names circular values cell (Raw text) = Bad Syntax
@@ -23,10 +23,10 @@ cell_value names circular values cell (Formula tree) =
     if circular then Bad Circular else top (eval cell names values tree)
 
 -- the values after k rounds; before the first, each formula counts as circular
-abbrev pub after_rounds : Book → ℕ → Values
+abbrev pub after_rounds : Book → ℕ → CellValues
 after_rounds book zero cell = cell_value (area_named book) true (λ _. Blank) cell (content_at book cell)
 after_rounds book (suc k) cell =
     cell_value (area_named book) (is_circular book cell) (after_rounds book k) cell (content_at book cell)
 
-abbrev pub val : Book → Values
+abbrev pub val : Book → CellValues
 val book = after_rounds book (formula_count book + 1)

@@ -2,7 +2,10 @@
 //! say what a book means.
 #![tactic(auto)]
 
+mod code_id;
 mod content;
+mod dependents;
+mod ear;
 mod edit;
 mod fault;
 mod identifier;
@@ -10,11 +13,17 @@ mod laws;
 mod limits;
 mod list;
 mod looked;
+mod names;
+mod steps;
 mod text;
 mod tree;
 mod value;
+mod values;
 
+pub use code_id::CodeId;
 pub use content::{Constant, Content, Formula};
+pub use dependents::{Dependents, Part};
+pub use ear::Ear;
 pub use edit::{Edit, EditCause};
 pub use fault::Fault;
 pub use identifier::{begins_identifier, is_identifier, is_in_identifier, is_name, is_utf8};
@@ -25,6 +34,9 @@ pub use limits::{
 };
 pub use list::List;
 pub use looked::Looked;
+pub use names::NameTable;
+pub use steps::Steps;
 pub use text::Text;
 pub use tree::{Op, Tree};
 pub use value::{Seen, Value, show, to_number};
+pub use values::{Piece, Values};

@@ -18,7 +18,7 @@ use Rattle.plain_evaluator.specs.Plain.{no_names}
 
 -- in a book without names none stands for anything
 pub no_name_is_defined : (book : Book) → book.names ≡ [] → area_named book ≡ no_names
-unfolding area_named
+unfolding entry_named
 no_name_is_defined book none = ap (λ names name. looked_up (find (slice_cmp nat_cmp) (str_to_ascii_uppercase name) names)) none
 
 flat_map-map : {X Y : Type 0} (f : X → List Y) (xs : List X) → flat_map (λ ys. ys) (map f xs) ≡ flat_map f xs

@@ -21,7 +21,7 @@ use Rattle.plain_workbook.specs.Workbook.{State, stale_of}
 -- a book changes at some cells at most, and these join those that were touched before
 module _ (before after : Book) (unnamed : after.names ≡ before.names) (old edited all : CellSet) (same : (q : Place) → edited q ≡ false → content_at after q ≡ content_at before q) (joined : (q : Place) → all q ≡ (old q || edited q)) where
   same_names : area_named after ≡ area_named before
-  unfolding area_named
+  unfolding entry_named
   same_names = ap (λ names name. looked_up (find (slice_cmp nat_cmp) (str_to_ascii_uppercase name) names)) unnamed
 
   same_reads : (q : Place) → edited q ≡ false → reads after q ≡ reads before q
