@@ -7,10 +7,9 @@ use Rattle.calc_addr.specs.declared.reference.Span.{Span}
 use Rattle.calc_addr.specs.declared.reference.Span.TheVariants.{One, Cells, Columns, Rows}
 use Rattle.calc_addr.specs.Places.{Place}
 use Rattle.calc_addr.specs.References.{Reference}
-use Rattle.calc_model.specs.declared.tree.Tree.{Tree, roll-Tree}
-use Rattle.calc_model.specs.declared.tree.Tree.TheOpen.{Tree-F}
-use Rattle.calc_model.specs.declared.tree.Tree.TheFolds.{fold-Tree}
+use Rattle.calc_model.specs.declared.tree.Tree.{Tree}
 use Rattle.calc_model.specs.declared.tree.Tree.TheVariants.{Ref}
+use Rattle.calc_model.specs.TreeShifts.{replaced}
 
 -- the columns of a reference are coordinates
 abbrev pub has_cols : Span → Bool
@@ -54,19 +53,10 @@ relative_reference home r = with_coordinates (λ moves at. to_distance moves LAS
 abbrev pub absolute_reference : Place → Reference → Reference
 absolute_reference home r = with_coordinates (λ moves to. from_distance moves LAST_COL home.col to) (λ moves to. from_distance moves LAST_ROW home.row to) r
 
--- a node with another tree in place of a reference
-abbrev pub with_reference : (Reference → Tree) → Tree-F Tree → Tree
-with_reference f (Tree-F.Ref reference) = f reference
-with_reference f node = roll-Tree node
-
--- a tree with another tree in place of each reference
-unfoldable pub with_references : (Reference → Tree) → Tree → Tree
-with_references f = fold-Tree Tree (with_reference f)
-
 -- the relative form of a tree at home
 abbrev pub relative : Place → Tree → Tree
-relative home = with_references (λ r. Ref (relative_reference home r))
+relative home = replaced (λ r. Ref (relative_reference home r))
 
 -- the tree at home with that relative form
 abbrev pub absolute : Place → Tree → Tree
-absolute home = with_references (λ r. Ref (absolute_reference home r))
+absolute home = replaced (λ r. Ref (absolute_reference home r))

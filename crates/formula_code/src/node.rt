@@ -11,10 +11,7 @@ pub enum Node {
     Ref(RelativeRef),
     Name(Text),
     /// A call with so many parameters.
-    Call {
-        name: Text,
-        args: u8,
-    },
+    Call { name: Text, args: u8 },
     Paren,
     Plus,
     Minus,

@@ -1,5 +1,5 @@
-ghost use Rattle.std.specs.Prelude.{◌≡◌, true};
-ghost use Rattle.calc_addr.specs.ValidReferences.{is_valid_reference};
+ghost use Rattle.std.specs.Prelude.{◌≡◌, ◌≤◌, ◌&&◌, not};
+ghost use Rattle.calc_addr.specs.References.{IsValidReference};
 ghost use Rattle.formula_code.specs.Relative.{absolute_reference, from_distance, has_cols, has_rows, relative_reference, to_distance};
 
 use calc_addr::{Area, Cell, LAST_COL, LAST_ROW, Marks, Ref, Span};
@@ -53,18 +53,14 @@ impl RelativeRef {
     pub fn of(r: Ref, home: Cell) -> RelativeRef
         ensures { result ≡ relative_reference home r }
     {
-        let col = |marked: bool, at: u16| {
-            if has_cols(r.span) && !marked { LAST_COL + at - home.col } else { at }
-        };
-        let row = |marked: bool, at: u32| {
-            if has_rows(r.span) && !marked { LAST_ROW + at - home.row } else { at }
-        };
+        let cols = has_cols(r.span);
+        let rows = has_rows(r.span);
         RelativeRef {
             sheet: r.area.sheet,
-            first_col: col(r.marks.first_col, r.area.first_col),
-            last_col: col(r.marks.last_col, r.area.last_col),
-            first_row: row(r.marks.first_row, r.area.first_row),
-            last_row: row(r.marks.last_row, r.area.last_row),
+            first_col: col_distance(moves(cols, r.marks.first_col), home, r.area.first_col),
+            last_col: col_distance(moves(cols, r.marks.last_col), home, r.area.last_col),
+            first_row: row_distance(moves(rows, r.marks.first_row), home, r.area.first_row),
+            last_row: row_distance(moves(rows, r.marks.last_row), home, r.area.last_row),
             span: r.span,
             marks: r.marks,
         }
@@ -72,26 +68,60 @@ impl RelativeRef {
 
     /// The reference of that form of a formula at `home`.
     pub fn at(self, home: Cell) -> Ref
-        requires { is_valid_reference (absolute_reference home self) ≡ true }
+        requires { IsValidReference (absolute_reference home self) }
         ensures { result ≡ absolute_reference home self }
     {
-        let col = |marked: bool, to: u16| {
-            if has_cols(self.span) && !marked { home.col + to - LAST_COL } else { to }
-        };
-        let row = |marked: bool, to: u32| {
-            if has_rows(self.span) && !marked { home.row + to - LAST_ROW } else { to }
-        };
+        let cols = has_cols(self.span);
+        let rows = has_rows(self.span);
         Ref {
             area: Area {
                 sheet: self.sheet,
-                first_col: col(self.marks.first_col, self.first_col),
-                last_col: col(self.marks.last_col, self.last_col),
-                first_row: row(self.marks.first_row, self.first_row),
-                last_row: row(self.marks.last_row, self.last_row),
+                first_col: col_at(moves(cols, self.marks.first_col), home, self.first_col),
+                last_col: col_at(moves(cols, self.marks.last_col), home, self.last_col),
+                first_row: row_at(moves(rows, self.marks.first_row), home, self.first_row),
+                last_row: row_at(moves(rows, self.marks.last_row), home, self.last_row),
             },
             span: self.span,
             marks: self.marks,
         }
+    }
+}
+
+fn col_distance(moves: bool, home: Cell, at: u16) -> u16
+    requires { at ≤ LAST_COL }
+    ensures { result ≡ to_distance moves LAST_COL home.col at }
+{
+    if moves { LAST_COL + at - home.col } else { at }
+}
+
+fn row_distance(moves: bool, home: Cell, at: u32) -> u32
+    requires { at ≤ LAST_ROW }
+    ensures { result ≡ to_distance moves LAST_ROW home.row at }
+{
+    if moves { LAST_ROW + at - home.row } else { at }
+}
+
+fn col_at(moves: bool, home: Cell, distance: u16) -> u16
+    requires from { 1 ≤ from_distance moves LAST_COL home.col distance }
+    requires to { from_distance moves LAST_COL home.col distance ≤ LAST_COL }
+    ensures { result ≡ from_distance moves LAST_COL home.col distance }
+{
+    if moves {
+        home.col + distance - LAST_COL
+    } else {
+        distance
+    }
+}
+
+fn row_at(moves: bool, home: Cell, distance: u32) -> u32
+    requires from { 1 ≤ from_distance moves LAST_ROW home.row distance }
+    requires to { from_distance moves LAST_ROW home.row distance ≤ LAST_ROW }
+    ensures { result ≡ from_distance moves LAST_ROW home.row distance }
+{
+    if moves {
+        home.row + distance - LAST_ROW
+    } else {
+        distance
     }
 }
 
@@ -105,4 +135,11 @@ fn has_rows(span: Span) -> bool
     ensures { result ≡ has_rows span }
 {
     !matches!(span, Span::Columns)
+}
+
+/// Whether a coordinate moves with the formula's cell.
+fn moves(is_coordinate: bool, is_marked: bool) -> bool
+    ensures { result ≡ (is_coordinate && not is_marked) }
+{
+    is_coordinate && !is_marked
 }
