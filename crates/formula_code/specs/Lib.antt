@@ -1,2 +1,6 @@
 pub mod Relative
 pub mod Nodes
+pub mod Tokens
+pub mod Lent
+pub mod Codes
+pub mod Building

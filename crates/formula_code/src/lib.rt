@@ -3,6 +3,8 @@
 
 mod node;
 mod relative;
+mod token;
 
 pub use node::Node;
 pub use relative::RelativeRef;
+pub use token::{Token, Tokens};

@@ -1,0 +1,64 @@
+-- A table of codes: for each number the code that has it, if one is live. A code is a relative form and the
+-- number of its uses.
+use Rattle.std.specs.Prelude.{◌≡◌, ◌≢◌, ◌<◌, ℕ, ◌+◌, ◌-◌, ◌==◌, Bool, true, List, count_by, Option, Some, None, is_some, IsSome, slice_index_or, if◌then◌else◌, refl}
+use Rattle.std.specs.Option.{option_map_or}
+use Rattle.std.specs.List.{list_all}
+use Rattle.std.specs.Coded.{Coded, code_by, coded×, coded_ℕ}
+use Rattle.calc_addr.specs.Places.{Place}
+use Rattle.calc_model.specs.contracts.tree.Tree as coded_tree
+use Rattle.calc_model.specs.declared.tree.Tree.{Tree}
+use Rattle.calc_model.specs.declared.tree.Tree.TheVariants.{Bad}
+use Rattle.calc_model.specs.declared.fault.Fault.TheVariants.{Syntax}
+use Rattle.formula_code.specs.Nodes.{postfix}
+use Rattle.formula_code.specs.Relative.{absolute}
+use Rattle.formula_code.specs.Tokens.{is_valid_node}
+
+pub record Code : Type 0 where
+  pub form : Tree
+  pub uses : ℕ
+
+abbrev pub code_of_code : Coded Code
+code_of_code = code_by (Tree × ℕ) (coded× coded_tree.the_row.coded coded_ℕ) (λ c. (c.form, c.uses)) (λ p. record { form = p.0; uses = p.1 }) (λ _. refl)
+
+abbrev pub Codes : Type 0
+Codes = List (Option Code)
+
+-- the code with that number, if it is live
+abbrev pub code_at : Codes → ℕ → Option Code
+code_at codes id = slice_index_or codes id None
+
+abbrev pub IsLive : Codes → ℕ → Type 0
+IsLive codes id = IsSome (code_at codes id)
+
+-- how many codes are live
+abbrev pub live_count : Codes → ℕ
+live_count codes = count_by is_some codes
+
+-- a live code's form, and its uses; a code that isn't live has none
+abbrev pub form_at : Codes → ℕ → Tree
+form_at codes id = option_map_or (λ (code : Code). code.form) (code_at codes id) (Bad Syntax)
+
+abbrev pub uses_at : Codes → ℕ → ℕ
+uses_at codes id = option_map_or (λ (code : Code). code.uses) (code_at codes id) 0
+
+-- the tree of a code for a formula at home
+abbrev pub tree_at : Codes → ℕ → Place → Tree
+tree_at codes id home = absolute home (form_at codes id)
+
+-- each reference lies in the sheet, with its ends in order
+abbrev pub has_valid_references : Tree → Bool
+has_valid_references tree = list_all is_valid_node (postfix tree)
+
+-- The code is live, and its references at home lie in the sheet, with their ends in order.
+pub record IsCodeAt (codes : Codes) (id : ℕ) (home : Place) : Type 0 where
+  pub live : IsLive codes id
+  pub valid : has_valid_references (tree_at codes id home) ≡ true
+
+-- The number has this code now, or none, and each other number has what it had.
+pub record Changes (old new : Codes) (id : ℕ) (code : Option Code) : Type 0 where
+  pub changed : code_at new id ≡ code
+  pub others : (other : ℕ) → other ≢ id → code_at new other ≡ code_at old other
+
+-- a form with so many uses, and no code where there is none
+abbrev pub with_uses : Tree → ℕ → Option Code
+with_uses form uses = if uses == 0 then None else Some (record { form = form; uses = uses })
