@@ -1,6 +1,6 @@
 -- A table of codes: for each number the code that has it, if one is live. A code is a relative form and the
 -- number of its uses.
-use Rattle.std.specs.Prelude.{◌≡◌, ◌≢◌, ◌<◌, ℕ, ◌+◌, ◌-◌, ◌==◌, Bool, true, List, count_by, Option, Some, None, is_some, IsSome, slice_index_or, if◌then◌else◌, refl}
+use Rattle.std.specs.Prelude.{◌≡◌, ◌≢◌, ℕ, ◌==◌, Bool, true, List, count_by, Option, Some, None, is_some, IsSome, slice_index_or, if◌then◌else◌, refl}
 use Rattle.std.specs.Option.{option_map_or}
 use Rattle.std.specs.List.{list_all}
 use Rattle.std.specs.Coded.{Coded, code_by, coded×, coded_ℕ}
