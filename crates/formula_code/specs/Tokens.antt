@@ -1,9 +1,10 @@
 -- The nodes of a tree as they are lent, with absolute references.
-use Rattle.std.specs.Prelude.{Bool, true, List, map}
+use Rattle.std.specs.Prelude.{nat_le, ◌&&◌, Bool, true, List, map}
 use Rattle.std.specs.List.{list_all}
 use Rattle.calc_addr.specs.Places.{Place}
 use Rattle.calc_addr.specs.References.{Reference}
 use Rattle.calc_addr.specs.ValidReferences.{is_valid_reference}
+use Rattle.calc_model.specs.declared.limits.TheConstants.{MOST_PARAMETERS}
 use Rattle.formula_code.specs.Relative.{absolute_reference}
 use Rattle.formula_code.specs.declared.node.Node.{Node}
 use Rattle.formula_code.specs.declared.node.Node.TheVariants.{Number, Words, Bad, Ref, Name, Call, Paren, Plus, Minus, Percent, Binary}
@@ -34,6 +35,14 @@ abbrev pub is_valid_node : Node → Bool
 is_valid_node (Ref reference) = is_valid_reference reference
 is_valid_node _ = true
 
--- each reference does
-abbrev pub are_valid : List Node → Bool
-are_valid nodes = list_all is_valid_node nodes
+-- a call has no more parameters than a formula's call may have
+abbrev pub is_short_node : Node → Bool
+is_short_node (Call name args) = nat_le args MOST_PARAMETERS
+is_short_node _ = true
+
+-- a node that a formula can have
+abbrev pub is_token : Node → Bool
+is_token node = is_valid_node node && is_short_node node
+
+abbrev pub are_tokens : List Node → Bool
+are_tokens nodes = list_all is_token nodes

@@ -4,6 +4,7 @@
 mod node;
 mod relative;
 mod token;
+mod writing;
 
 pub use node::Node;
 pub use relative::RelativeRef;

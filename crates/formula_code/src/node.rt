@@ -11,7 +11,7 @@ pub enum Node {
     Ref(RelativeRef),
     Name(Text),
     /// A call with so many parameters.
-    Call { name: Text, args: u8 },
+    Call { name: Text, args: usize },
     Paren,
     Plus,
     Minus,

@@ -1,6 +1,6 @@
 ghost use Rattle.std.specs.Prelude.{◌≡◌, true};
 ghost use Rattle.formula_code.specs.Lent.{lent};
-ghost use Rattle.formula_code.specs.Tokens.{absolute_node, is_valid_node};
+ghost use Rattle.formula_code.specs.Tokens.{absolute_node, is_token};
 
 use crate::node::Node;
 use calc_addr::{Cell, Ref};
@@ -31,7 +31,7 @@ pub enum Token<'a> {
 impl Node {
     /// The node of a formula at `home`, lent.
     fn lent_at(&self, home: Cell) -> Token<'_>
-        requires { is_valid_node (absolute_node home self.now) ≡ true }
+        requires { is_token (absolute_node home self.now) ≡ true }
         ensures { lent result ≡ absolute_node home self.now }
     {
         match self {
@@ -40,7 +40,10 @@ impl Node {
             Node::Bad(fault) => Token::Bad(*fault),
             Node::Ref(reference) => Token::Ref(reference.at(home)),
             Node::Name(name) => Token::Name(name),
-            Node::Call { name, args } => Token::Call { name, args: *args },
+            Node::Call { name, args } => Token::Call {
+                name,
+                args: *args as u8,
+            },
             Node::Paren => Token::Paren,
             Node::Plus => Token::Plus,
             Node::Minus => Token::Minus,
@@ -60,21 +63,21 @@ pub struct Tokens<'a> {
 impl<'a> Model for Tokens<'a> {
     ghost use Rattle.std.specs.Prelude.{◌≡◌, List, true};
     ghost use Rattle.formula_code.specs.declared.node.Node.{Node};
-    ghost use Rattle.formula_code.specs.Tokens.{are_valid, nodes_at};
+    ghost use Rattle.formula_code.specs.Tokens.{are_tokens, nodes_at};
 
     ghost Value = { List Node };
 
     ghost view = { λ t. nodes_at t.home t.nodes.now };
 
-    ghost invariant = { λ t. are_valid (nodes_at t.home t.nodes.now) ≡ true };
+    ghost invariant = { λ t. are_tokens (nodes_at t.home t.nodes.now) ≡ true };
 }
 
 impl<'a> Tokens<'a> {
-    ghost use Rattle.formula_code.specs.Tokens.{are_valid, nodes_at};
+    ghost use Rattle.formula_code.specs.Tokens.{are_tokens, nodes_at};
 
     /// The nodes of a formula at `home`.
     pub(crate) fn of(nodes: &'a [Node], home: Cell) -> Tokens<'a>
-        requires { are_valid (nodes_at home nodes.now) ≡ true }
+        requires { are_tokens (nodes_at home nodes.now) ≡ true }
         ensures { result ≡ nodes_at home nodes.entry.now }
     {
         Tokens { nodes, home }
