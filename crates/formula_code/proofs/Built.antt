@@ -55,13 +55,13 @@ module _ (by : Reference → Tree) where
     reference = λ r rest trees. rw (postfix-Ref r, replaced-Ref _ r) (cons (Ref r) rest trees _ refl);
     name = λ name rest trees. rw (postfix-Name name, replaced-Name _ name) (cons (Name name) rest trees _ refl);
     call = λ name args known rest trees.
-    rw (postfix-Call name args, replaced-Call _ name args, append_assoc)
-    (all_built args known (Call name (length args) ∷ rest) trees ∙ cons (Call name (length args)) rest (reverse (map other args) ++ trees) _ (called name args trees));
+        rw (postfix-Call name args, replaced-Call _ name args, append_assoc)
+        (all_built args known (Call name (length args) ∷ rest) trees ∙ cons (Call name (length args)) rest (reverse (map other args) ++ trees) _ (called name args trees));
     paren = λ x is rest trees. rw (postfix-Paren x, replaced-Paren _ x, append_assoc) (is (Paren ∷ rest) trees ∙ cons Paren rest (other x ∷ trees) _ refl);
     plus = λ x is rest trees. rw (postfix-Plus x, replaced-Plus _ x, append_assoc) (is (Plus ∷ rest) trees ∙ cons Plus rest (other x ∷ trees) _ refl);
     minus = λ x is rest trees. rw (postfix-Minus x, replaced-Minus _ x, append_assoc) (is (Minus ∷ rest) trees ∙ cons Minus rest (other x ∷ trees) _ refl);
     percent = λ x is rest trees. rw (postfix-Percent x, replaced-Percent _ x, append_assoc) (is (Percent ∷ rest) trees ∙ cons Percent rest (other x ∷ trees) _ refl);
     binary = λ op x y left right rest trees.
-    rw (postfix-Binary op x y, replaced-Binary _ op x y, append_assoc, append_assoc)
-    (left (postfix y ++ (Binary op ∷ rest)) trees ∙ right (Binary op ∷ rest) (other x ∷ trees) ∙ cons (Binary op) rest (other y ∷ other x ∷ trees) _ refl);
+        rw (postfix-Binary op x y, replaced-Binary _ op x y, append_assoc, append_assoc)
+        (left (postfix y ++ (Binary op ∷ rest)) trees ∙ right (Binary op ∷ rest) (other x ∷ trees) ∙ cons (Binary op) rest (other y ∷ other x ∷ trees) _ refl);
   })

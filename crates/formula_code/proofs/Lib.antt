@@ -4,3 +4,4 @@ pub mod Replaced
 pub mod Distances
 pub mod NodeLists
 pub mod Built
+pub mod Strips

@@ -99,7 +99,7 @@ module _ (change : Reference → Reference) where
     reference = λ r. rw (postfix-Ref r, replaced-Ref _ r, postfix-Ref (change r));
     name = λ name. rw (postfix-Name name, replaced-Name _ name, postfix-Name name);
     call = λ name args known.
-    rw (postfix-Call name args, replaced-Call _ name args, postfix-Call name (map other args), map-append, length-map args other, flat_map-map postfix other args, map_lists (node_with change) postfix (λ x. postfix (other x)) args known);
+        rw (postfix-Call name args, replaced-Call _ name args, postfix-Call name (map other args), map-append, length-map args other, flat_map-map postfix other args, map_lists (node_with change) postfix (λ x. postfix (other x)) args known);
     paren = λ x is. rw (postfix-Paren x, replaced-Paren _ x, postfix-Paren (other x), map-append, is);
     plus = λ x is. rw (postfix-Plus x, replaced-Plus _ x, postfix-Plus (other x), map-append, is);
     minus = λ x is. rw (postfix-Minus x, replaced-Minus _ x, postfix-Minus (other x), map-append, is);

@@ -4,3 +4,6 @@ pub mod Tokens
 pub mod Lent
 pub mod Codes
 pub mod Building
+pub mod Digests
+pub mod Stripping
+pub mod Wanted

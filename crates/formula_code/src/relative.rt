@@ -1,13 +1,15 @@
-ghost use Rattle.std.specs.Prelude.{◌≡◌, ◌≤◌, ◌&&◌, not};
+ghost use Rattle.std.specs.Prelude.{◌≡◌, ◌≤◌, ◌&&◌, ◌↔◌, IsTrue, not};
 ghost use Rattle.calc_addr.specs.References.{IsValidReference};
+ghost use Rattle.formula_code.specs.Digests.{reference_digest};
 ghost use Rattle.formula_code.specs.Relative.{absolute_reference, from_distance, has_cols, has_rows, relative_reference, to_distance};
 
+use crate::digest::mix;
 use calc_addr::{Area, Cell, LAST_COL, LAST_ROW, Marks, Ref, Span};
 use std::marker::Model;
 
 /// A reference of a formula in which each coordinate without a mark is its distance from the formula's
 /// cell. Contracts see it as the reference with these numbers.
-#[derive(Clone, Copy, Debug, PartialEq, Eq)]
+#[derive(Clone, Copy)]
 pub struct RelativeRef {
     sheet: u8,
     first_col: u16,
@@ -64,6 +66,34 @@ impl RelativeRef {
             span: r.span,
             marks: r.marks,
         }
+    }
+
+    pub(crate) fn is_same(self, other: RelativeRef) -> bool
+        ensures { IsTrue result ↔ (self ≡ other) }
+    {
+        self.has_same_area(other) && self.span == other.span && is_same(self.marks, other.marks)
+    }
+
+    fn has_same_area(self, other: RelativeRef) -> bool
+        ensures { IsTrue result ↔ (self.area ≡ other.area) }
+    {
+        self.sheet == other.sheet
+            && self.first_col == other.first_col
+            && self.last_col == other.last_col
+            && self.first_row == other.first_row
+            && self.last_row == other.last_row
+    }
+
+    pub(crate) fn digest(self) -> u64
+        ensures { result ≡ reference_digest self }
+    {
+        let sheet = mix(4, u64::from(self.sheet));
+        let first_col = mix(sheet, u64::from(self.first_col));
+        let last_col = mix(first_col, u64::from(self.last_col));
+        mix(
+            mix(last_col, u64::from(self.first_row)),
+            u64::from(self.last_row),
+        )
     }
 
     /// The reference of that form of a formula at `home`.
@@ -123,6 +153,16 @@ fn row_at(moves: bool, home: Cell, distance: u32) -> u32
     } else {
         distance
     }
+}
+
+fn is_same(marks: Marks, other: Marks) -> bool
+    ensures { IsTrue result ↔ (marks ≡ other) }
+{
+    marks.sheet == other.sheet
+        && marks.first_col == other.first_col
+        && marks.first_row == other.first_row
+        && marks.last_col == other.last_col
+        && marks.last_row == other.last_row
 }
 
 fn has_cols(span: Span) -> bool

@@ -17,10 +17,7 @@ pub enum Token<'a> {
     Ref(Ref),
     Name(&'a Text),
     /// A call with so many parameters.
-    Call {
-        name: &'a Text,
-        args: u8,
-    },
+    Call { name: &'a Text, args: u8 },
     Paren,
     Plus,
     Minus,

@@ -59,12 +59,7 @@ pub(crate) fn write_nodes(
 }
 
 #[cycle(writing)]
-fn write_all(
-    trees: &[Tree],
-    home: Cell,
-    alloc: Global,
-    out: &mut Vec<Node>,
-) -> Result<(), NoMemory>
+fn write_all(trees: &[Tree], home: Cell, alloc: Global, out: &mut Vec<Node>) -> Result<(), NoMemory>
     ensures { OnOk result (out.new.items
         ≡ out.old.items ++ flat_map (λ nodes. nodes) (map (relative_nodes home) trees.now)) }
 {
