@@ -1,7 +1,7 @@
 -- The nodes of a tree build it again.
 use Rattle.std.proofs.Common.{◌≡◌, ℕ, List, [], ◌∷◌, ◌++◌, map, length, take, drop, reverse, Some, nat_le, true, ap, sym, ◌∙◌, refl, arith}
 use Rattle.std.specs.List.{AllByRecursion, flat_map}
-use Rattle.std.proofs.lemmas.List.{append_assoc, length-map, length-reverse, length-append, reverse-append, reverse-reverse}
+use Rattle.std.proofs.lemmas.List.{append-nil, append_assoc, length-map, length-reverse, length-append, reverse-append, reverse-reverse}
 use Rattle.std.proofs.lemmas.Bool.{le-leb}
 use Rattle.std.proofs.Math.Seq.{take-append_seam, drop-append_seam}
 use Rattle.calc_addr.specs.References.{Reference}
@@ -11,9 +11,9 @@ use Rattle.calc_model.specs.TreeShifts.{replaced}
 use Rattle.calc_model.proofs.TreeInduction.{tree_ind}
 use Rattle.formula_code.specs.declared.node.Node.{Node}
 use Rattle.formula_code.specs.declared.node.Node.TheVariants.{Number, Words, Bad, Ref, Name, Call, Paren, Plus, Minus, Percent, Binary}
-use Rattle.formula_code.specs.Building.{built, built_on}
+use Rattle.formula_code.specs.Building.{built, built_on, top_of, tree_of}
 use Rattle.formula_code.specs.Nodes.{postfix}
-use Rattle.formula_code.proofs.Replaced.{replaced-Number, replaced-Words, replaced-Bad, replaced-Ref, replaced-Name, replaced-Call, replaced-Paren, replaced-Plus, replaced-Minus, replaced-Percent, replaced-Binary}
+use Rattle.formula_code.proofs.Replaced.{replaced-Number, replaced-Words, replaced-Bad, replaced-Ref, replaced-Name, replaced-Call, replaced-Paren, replaced-Plus, replaced-Minus, replaced-Percent, replaced-Binary, replaced_same}
 use Rattle.formula_code.proofs.NodeLists.{postfix-Number, postfix-Words, postfix-Bad, postfix-Ref, postfix-Name, postfix-Call, postfix-Paren, postfix-Plus, postfix-Minus, postfix-Percent, postfix-Binary}
 
 module _ (by : Reference → Tree) where
@@ -65,3 +65,12 @@ module _ (by : Reference → Tree) where
         rw (postfix-Binary op x y, replaced-Binary _ op x y, append_assoc, append_assoc)
         (left (postfix y ++ (Binary op ∷ rest)) trees ∙ right (Binary op ∷ rest) (other x ∷ trees) ∙ cons (Binary op) rest (other y ∷ other x ∷ trees) _ refl);
   })
+
+-- and nothing else
+pub built_whole : (by : Reference → Tree) (x : Tree) → built by (postfix x) [] ≡ Some (replaced by x ∷ [])
+unfolding built
+built_whole by x = ap (λ nodes. built by nodes []) (sym (append-nil (postfix x))) ∙ builds by x [] []
+
+pub tree_of-postfix : (x : Tree) → tree_of (postfix x) ≡ x
+unfolding tree_of
+tree_of-postfix x = ap top_of (built_whole t.Ref x) ∙ replaced_same t.Ref (λ r. refl) x

@@ -5,3 +5,8 @@ pub mod Distances
 pub mod NodeLists
 pub mod Built
 pub mod Strips
+pub mod FormDigests
+pub mod FormedTrees
+pub mod CountedNodes
+pub mod Forms
+pub mod KeptForms

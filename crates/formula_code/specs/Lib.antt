@@ -7,3 +7,4 @@ pub mod Building
 pub mod Digests
 pub mod Stripping
 pub mod Wanted
+pub mod Kept

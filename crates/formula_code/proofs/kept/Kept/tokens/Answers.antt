@@ -1,0 +1,20 @@
+use Rattle.std.proofs.Common.{ap, sym, ◌∙◌}
+use Rattle.formula_code.specs.Codes.{Code, has_valid_references}
+use Rattle.formula_code.specs.Nodes.{postfix}
+use Rattle.formula_code.specs.Relative.{absolute}
+use Rattle.formula_code.specs.Tokens.{are_tokens, nodes_at}
+use Rattle.formula_code.proofs.Forms.{form_tokens, nodes_of_tree}
+use Rattle.formula_code.proofs.kept.Kept.tokens.Goals as goal
+
+pub of-requires : goal.of-requires
+of-requires c =
+    let form = ap (λ (k : Code). k.form) c.self.view_is in
+    let nodes = c.self.invariant.listed ∙ sym c.as_slice.ensures.value in
+    ap (λ ns. are_tokens (nodes_at c.args.home ns)) (sym nodes)
+    ∙ form_tokens c.args.home _ c.self.invariant.formed (ap (λ x. has_valid_references (absolute c.args.home x)) form ∙ c.requires)
+
+pub returns : goal.returns
+returns c =
+    let form = ap (λ (k : Code). k.form) c.self.view_is in
+    let nodes = c.self.invariant.listed ∙ sym c.as_slice.ensures.value in
+    c.of.ensures ∙ ap (nodes_at c.args.home) (sym nodes) ∙ nodes_of_tree c.args.home _ ∙ ap (λ x. postfix (absolute c.args.home x)) form
