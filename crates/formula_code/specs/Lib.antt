@@ -8,3 +8,4 @@ pub mod Digests
 pub mod Stripping
 pub mod Wanted
 pub mod Kept
+pub mod Listed

@@ -2,6 +2,7 @@
 #![tactic(auto)]
 
 mod digest;
+mod index;
 mod kept;
 mod matching;
 mod node;
