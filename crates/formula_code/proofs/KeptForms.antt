@@ -18,14 +18,13 @@ use Rattle.formula_code.proofs.NodeLists.{relative_nodes_are}
 pub written_tree : (home : Place) (x : Tree) (nodes : List Node) → nodes ≡ relative_nodes home x → tree_of nodes ≡ relative home x
 written_tree home x nodes is = ap tree_of (is ∙ relative_nodes_are home x) ∙ tree_of-postfix (relative home x)
 
-pub written_kept : (home : Place) (x : Tree) (digest : ℕ) (nodes : List Node) → is_formed x ≡ true → digest ≡ digest_at home x → nodes ≡ relative_nodes home x → IsKept nodes digest 1
+pub written_kept : (home : Place) (x : Tree) (digest : ℕ) (nodes : List Node) → is_formed x ≡ true → digest ≡ digest_at home x → nodes ≡ relative_nodes home x → IsKept nodes digest
 written_kept home x digest nodes formed digested is =
     let tree = written_tree home x nodes is in
     record {
       listed = ap postfix tree ∙ sym (is ∙ relative_nodes_are home x);
       formed = rw tree (form_of_tree home x formed);
       digested = digested ∙ digest_is home x ∙ ap form_digest (sym tree);
-      used = omega arith;
     }
 
 -- a form is that of the tree exactly where its nodes are

@@ -10,3 +10,4 @@ pub mod FormedTrees
 pub mod CountedNodes
 pub mod Forms
 pub mod KeptForms
+pub mod SlotLemmas

@@ -1,6 +1,6 @@
 -- A table of codes: for each number the code that has it, if one is live. A code is a relative form and the
 -- number of its uses.
-use Rattle.std.specs.Prelude.{◌≡◌, ◌≢◌, ℕ, ◌==◌, Bool, true, List, count_by, Option, Some, None, is_some, IsSome, slice_index_or, if◌then◌else◌, refl}
+use Rattle.std.specs.Prelude.{◌≡◌, ◌≢◌, ℕ, ◌==◌, Bool, true, List, count_by, Option, Some, None, is_some, IsSome, option_map, slice_index_or, if◌then◌else◌, refl}
 use Rattle.std.specs.Option.{option_map_or}
 use Rattle.std.specs.List.{list_all}
 use Rattle.std.specs.Coded.{Coded, code_by, coded×, coded_ℕ}
@@ -58,6 +58,14 @@ pub record IsCodeAt (codes : Codes) (id : ℕ) (home : Place) : Type 0 where
 pub record Changes (old new : Codes) (id : ℕ) (code : Option Code) : Type 0 where
   pub changed : code_at new id ≡ code
   pub others : (other : ℕ) → other ≢ id → code_at new other ≡ code_at old other
+
+-- the code, if there is one, with so many uses
+abbrev pub with_new_uses : ℕ → Option Code → Option Code
+with_new_uses uses = option_map (λ (code : Code). record code { uses = uses })
+
+-- Each number has what it had.
+abbrev pub IsSame : Codes → Codes → Type 0
+IsSame old new = (id : ℕ) → code_at new id ≡ code_at old id
 
 -- a form with so many uses, and no code where there is none
 abbrev pub with_uses : Tree → ℕ → Option Code

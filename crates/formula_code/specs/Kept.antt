@@ -1,5 +1,5 @@
--- What is kept of a code: the nodes of its form in postfix order, its digest, and its uses.
-use Rattle.std.specs.Prelude.{◌≡◌, ◌<◌, ℕ, true, List}
+-- What is kept of a code: the nodes of its form in postfix order, and its digest.
+use Rattle.std.specs.Prelude.{◌≡◌, ℕ, true, List}
 use Rattle.calc_model.specs.declared.fault.Fault.TheVariants.{BadRef}
 use Rattle.calc_model.specs.declared.tree.Tree.{Tree}
 use Rattle.calc_model.specs.declared.tree.Tree.TheVariants.{Bad}
@@ -18,8 +18,7 @@ without_references = replaced (λ r. Bad BadRef)
 abbrev pub IsForm : Tree → Type 0
 IsForm form = is_formed (without_references form) ≡ true
 
-pub record IsKept (nodes : List Node) (digest uses : ℕ) : Type 0 where
+pub record IsKept (nodes : List Node) (digest : ℕ) : Type 0 where
   pub listed : postfix (tree_of nodes) ≡ nodes
   pub formed : IsForm (tree_of nodes)
   pub digested : digest ≡ form_digest (tree_of nodes)
-  pub used : 0 < uses

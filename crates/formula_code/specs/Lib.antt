@@ -9,3 +9,4 @@ pub mod Stripping
 pub mod Wanted
 pub mod Kept
 pub mod Listed
+pub mod Slots

@@ -1,4 +1,4 @@
-ghost use Rattle.std.specs.Prelude.{◌≡◌, ◌<◌, ◌↔◌, IfOk, IsTrue, true};
+ghost use Rattle.std.specs.Prelude.{◌≡◌, ◌↔◌, IfOk, IsTrue, true};
 ghost use Rattle.calc_model.specs.Formed.{is_formed};
 ghost use Rattle.formula_code.specs.Codes.{has_valid_references};
 ghost use Rattle.formula_code.specs.Digests.{digest_at, form_digest};
@@ -14,7 +14,7 @@ use calc_model::Tree;
 use std::alloc::Global;
 use std::marker::Model;
 
-/// A form and its uses, of which there is at least one. Contracts see it as its code.
+/// A form and its uses. Contracts see it as its code.
 #[derive(Drop)]
 pub(crate) struct Kept {
     nodes: Vec<Node>,
@@ -34,7 +34,7 @@ impl Model for Kept {
 
     ghost view = { λ k. record { form = tree_of k.nodes.items; uses = k.uses } };
 
-    ghost invariant = { λ k. IsKept k.nodes.items k.digest k.uses };
+    ghost invariant = { λ k. IsKept k.nodes.items k.digest };
 }
 
 impl Kept {
@@ -70,14 +70,12 @@ impl Kept {
     }
 
     pub(crate) fn uses(&self) -> u32
-        ensures value { result ≡ self.now.uses }
-        ensures some { 0 < self.now.uses }
+        ensures { result ≡ self.now.uses }
     {
         self.uses
     }
 
     pub(crate) fn set_uses(&mut self, uses: u32)
-        requires { 0 < uses }
         ensures { self.new ≡ record self.old { uses = uses } }
     {
         self.uses = uses;

@@ -7,6 +7,7 @@ mod kept;
 mod matching;
 mod node;
 mod relative;
+mod slots;
 mod token;
 mod writing;
 
