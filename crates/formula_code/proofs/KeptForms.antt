@@ -1,5 +1,5 @@
 -- The nodes that are written for a tree are its relative form's, and are compared as such.
-use Rattle.std.proofs.Common.{◌≡◌, ℕ, true, List, [], ◌++◌, ap, sym, ◌∙◌, arith}
+use Rattle.std.proofs.Common.{◌≡◌, ℕ, true, List, [], ◌++◌, ap, sym, ◌∙◌}
 use Rattle.std.proofs.lemmas.List.{append-nil, append_cancel_left}
 use Rattle.calc_addr.specs.Places.{Place}
 use Rattle.calc_model.specs.declared.tree.Tree.{Tree}

@@ -11,3 +11,4 @@ pub mod CountedNodes
 pub mod Forms
 pub mod KeptForms
 pub mod SlotLemmas
+pub mod TableLemmas

@@ -1,11 +1,10 @@
 -- Slots whose last free number is taken.
-use Rattle.std.proofs.Common.{◌≡◌, ◌≢◌, ◌<◌, ◌≤◌, ℕ, ◌+◌, List, [], ◌∷◌, ◌++◌, length, get_or, set, cond, Option, Some, None, is_some, ap, sym, ◌∙◌, subst, arith}
-use Rattle.std.specs.List.{count_by}
+use Rattle.std.proofs.Common.{◌≡◌, ◌≢◌, ◌<◌, ℕ, ◌+◌, List, [], ◌∷◌, ◌++◌, length, get_or, set, cond, Option, Some, None, is_some, ap, sym, ◌∙◌, subst, arith}
 use Rattle.std.proofs.lemmas.List.{length-append, length-set, get_or-set_other}
 use Rattle.std.proofs.lemmas.List.Sums.{sum_by-set}
 use Rattle.std.proofs.Math.ListN.{get_or-append}
 use Rattle.std.proofs.Math.Seq.{get_or-append_seam}
-use Rattle.formula_code.specs.Codes.{Code, Codes, code_at, live_count}
+use Rattle.formula_code.specs.Codes.{Code, Codes, live_count}
 use Rattle.formula_code.specs.Slots.{AreSlots}
 
 abbrev tally : Option Code → ℕ

@@ -1,6 +1,6 @@
 -- A table of codes: for each number the code that has it, if one is live. A code is a relative form and the
 -- number of its uses.
-use Rattle.std.specs.Prelude.{◌≡◌, ◌≢◌, ℕ, ◌==◌, Bool, true, List, count_by, Option, Some, None, is_some, IsSome, option_map, slice_index_or, if◌then◌else◌, refl}
+use Rattle.std.specs.Prelude.{◌≡◌, ◌≢◌, ◌<◌, ◌+◌, ℕ, ◌==◌, Bool, true, List, count_by, Option, Some, None, is_some, IsSome, option_map, slice_index_or, if◌then◌else◌, refl}
 use Rattle.std.specs.Option.{option_map_or}
 use Rattle.std.specs.List.{list_all}
 use Rattle.std.specs.Coded.{Coded, code_by, coded×, coded_ℕ}
@@ -70,3 +70,20 @@ IsSame old new = (id : ℕ) → code_at new id ≡ code_at old id
 -- a form with so many uses, and no code where there is none
 abbrev pub with_uses : Tree → ℕ → Option Code
 with_uses form uses = if uses == 0 then None else Some (record { form = form; uses = uses })
+
+-- the number's code is live, with that form
+pub record HasForm (codes : Codes) (id : ℕ) (form : Tree) : Type 0 where
+  pub live : IsLive codes id
+  pub same : form_at codes id ≡ form
+
+-- Two live codes are one exactly where their forms are.
+abbrev pub AreApart : Codes → Type 0
+AreApart codes = (id other : ℕ) → IsLive codes id → IsLive codes other → form_at codes id ≡ form_at codes other → id ≡ other
+
+-- Each live code has a use.
+abbrev pub AreUsed : Codes → Type 0
+AreUsed codes = (id : ℕ) → IsLive codes id → 0 < uses_at codes id
+
+-- another use of a code, or the first one of a form
+abbrev pub used_again : Codes → ℕ → Tree → Option Code
+used_again codes id form = Some (record { form = form; uses = uses_at codes id + 1 })

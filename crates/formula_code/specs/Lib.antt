@@ -10,3 +10,4 @@ pub mod Wanted
 pub mod Kept
 pub mod Listed
 pub mod Slots
+pub mod Table

@@ -1,4 +1,4 @@
-ghost use Rattle.std.specs.Prelude.{◌≡◌, ◌↔◌, IfOk, IsTrue, true};
+ghost use Rattle.std.specs.Prelude.{◌≡◌, ◌↔◌, IfOk, IsTrue, length, ◌≤◌, true};
 ghost use Rattle.calc_model.specs.Formed.{is_formed};
 ghost use Rattle.formula_code.specs.Codes.{has_valid_references};
 ghost use Rattle.formula_code.specs.Digests.{digest_at, form_digest};
@@ -10,7 +10,7 @@ use crate::node::Node;
 use crate::token::Tokens;
 use crate::writing::write_nodes;
 use calc_addr::{Cell, NoMemory};
-use calc_model::Tree;
+use calc_model::{MOST_TOKENS, Tree};
 use std::alloc::Global;
 use std::marker::Model;
 
@@ -84,7 +84,8 @@ impl Kept {
     /// The nodes of the tree at `home`.
     pub(crate) fn tokens(&self, home: Cell) -> Tokens<'_>
         requires { has_valid_references (absolute home self.now.form) ≡ true }
-        ensures { result ≡ postfix (absolute home self.now.form) }
+        ensures nodes { result ≡ postfix (absolute home self.now.form) }
+        ensures few { length result ≤ MOST_TOKENS }
     {
         Tokens::of(self.nodes.as_slice(), home)
     }

@@ -8,9 +8,11 @@ mod matching;
 mod node;
 mod relative;
 mod slots;
+mod table;
 mod token;
 mod writing;
 
 pub use node::Node;
 pub use relative::RelativeRef;
+pub use table::CodeTable;
 pub use token::{Token, Tokens};

@@ -42,7 +42,8 @@ impl Slots {
 
     /// The code with that number.
     pub(crate) fn get(&self, number: u32) -> Option<&Kept>
-        ensures { option_copied result ≡ code_at self.now number }
+        ensures code { option_copied result ≡ code_at self.now number }
+        ensures number { IsLive self.now number → number < 2 ^ 24 }
     {
         match self.codes.get(number as usize) {
             Some(Some(code)) => Some(code),

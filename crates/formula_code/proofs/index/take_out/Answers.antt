@@ -1,10 +1,9 @@
-use Rattle.std.proofs.Common.{rules, ◌≡◌, ◌≢◌, ℕ, Bool, true, not, nat_eq, ap, refl, ◌∙◌, arith}
+use Rattle.std.proofs.Common.{rules, true, not, nat_eq, ap, ◌∙◌, arith}
 use Rattle.std.specs.Prelude.{◌==◌}
-use Rattle.std.specs.List.{list_any}
 use Rattle.std.proofs.lemmas.Bool.Decides.{nat_tests}
 use Rattle.std.proofs.lemmas.Fn.{filter_same}
 use Rattle.std.proofs.lemmas.Map.Views.{any-filter_same}
-use Rattle.formula_code.specs.Listed.{has_id, without}
+use Rattle.formula_code.specs.Listed.{has_id}
 use Rattle.formula_code.proofs.index.take_out.Goals as goal
 
 pub returns-clause-items : goal.returns-clause-items

@@ -1,4 +1,4 @@
-use Rattle.std.proofs.Common.{subst, sym, vec_capacity}
+use Rattle.std.proofs.Common.{subst, sym}
 use Rattle.formula_code.specs.Slots.{AreSlots}
 use Rattle.formula_code.proofs.SlotLemmas.{slot_taken}
 use Rattle.formula_code.proofs.slots.Slots.insert.Goals as goal
