@@ -1,0 +1,13 @@
+pub mod Relative
+pub mod Nodes
+pub mod Tokens
+pub mod Lent
+pub mod Codes
+pub mod Building
+pub mod Digests
+pub mod Stripping
+pub mod Wanted
+pub mod Kept
+pub mod Listed
+pub mod Slots
+pub mod Table

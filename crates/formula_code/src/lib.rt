@@ -1,0 +1,18 @@
+//! Formulas as arrays of tokens in postfix order, relative to their cell, each form kept once.
+#![tactic(auto)]
+
+mod digest;
+mod index;
+mod kept;
+mod matching;
+mod node;
+mod relative;
+mod slots;
+mod table;
+mod token;
+mod writing;
+
+pub use node::Node;
+pub use relative::RelativeRef;
+pub use table::CodeTable;
+pub use token::{Token, Tokens};

@@ -1,0 +1,199 @@
+ghost use Rattle.std.specs.Prelude.{◌≡◌, ◌<◌, ◌≤◌, ◌^◌, ◌+◌, ◌-◌, ◌↔◌, ℕ, [], None, true, IfNone, IfOk, IfSome, IsTrue, OnErr, length};
+ghost use Rattle.calc_model.specs.Formed.{is_formed};
+ghost use Rattle.formula_code.specs.Codes.{AreApart, AreUsed, Changes, HasForm, IsCodeAt, IsLive, IsSame, code_at, form_at, live_count, tree_at, used_again, uses_at, with_uses};
+ghost use Rattle.formula_code.specs.Digests.{digest_at};
+ghost use Rattle.formula_code.specs.Nodes.{postfix};
+ghost use Rattle.formula_code.specs.Relative.{relative};
+
+use crate::digest::digest;
+use crate::index::Index;
+use crate::kept::Kept;
+use crate::slots::Slots;
+use crate::token::Tokens;
+use calc_addr::{Cell, NoMemory};
+use calc_model::{CodeId, MOST_TOKENS, Tree};
+use std::alloc::Global;
+use std::marker::Model;
+
+/// How many codes are tried before one is looked up, by the columns of their cells.
+const RECENT: usize = 64;
+
+/// Formulas as token arrays, relative to their cells. Each form is kept once, with the number of its uses.
+/// Contracts see a list: at each place the code with that number, if it is live.
+#[derive(Drop)]
+pub struct CodeTable {
+    slots: Slots,
+    index: Index,
+    // for each column, counted around, a number that was asked for there
+    recent: [u32; RECENT],
+    alloc: Global,
+}
+
+impl Model for CodeTable {
+    ghost use Rattle.std.specs.Coded.{coded_list, coded_option};
+    ghost use Rattle.formula_code.specs.Codes.{Codes, code_of_code};
+
+    ghost Value = { Codes };
+
+    ghost coded = { coded_list (coded_option code_of_code) };
+
+    ghost use Rattle.formula_code.specs.Table.{IsTable};
+
+    ghost view = { λ t. t.slots };
+
+    ghost invariant = { λ t. IsTable t.slots t.index };
+}
+
+impl CodeTable {
+    /// A table without codes.
+    pub fn new(alloc: Global) -> CodeTable
+        ensures { result ≡ [] }
+    {
+        CodeTable {
+            slots: Slots::new(alloc),
+            index: Index::new(alloc),
+            recent: [0; RECENT],
+            alloc,
+        }
+    }
+
+    /// Two live codes are one exactly where their forms are, and each has a use.
+    pub fn are_apart(&self)
+        ensures apart { AreApart self.now }
+        ensures used { AreUsed self.now }
+    {
+        let _ = &self.slots;
+    }
+
+    /// Whether the number has the form of the tree at `home`.
+    fn has_form(&self, number: u32, tree: &Tree, home: Cell) -> bool
+        ensures { IsTrue result ↔ HasForm self.now number (relative home tree.now) }
+    {
+        match self.slots.get(number) {
+            Some(code) => code.has_form(tree, home),
+            None => false,
+        }
+    }
+
+    /// The number of the code of the tree at `home`, if it is live.
+    fn find(&self, digest: u64, tree: &Tree, home: Cell) -> Option<u32>
+        requires { digest ≡ digest_at home tree.now }
+        ensures found { IfSome result (λ id. HasForm self.now id (relative home tree.now)) }
+        ensures missed { IfNone result ((id : ℕ) → ¬ HasForm self.now id (relative home tree.now)) }
+    {
+        for number in self.index.ids(digest) {
+            if self.has_form(*number, tree, home) {
+                return Some(*number);
+            }
+        }
+        None
+    }
+
+    /// The number of the code of a tree at `home`, which has one use more. Linear in the tree where its
+    /// code is live, and then without memory.
+    pub fn intern(&mut self, tree: &Tree, home: Cell) -> Result<CodeId, NoMemory>
+        requires formed { is_formed tree.now ≡ true }
+        requires codes { live_count self.old < 2 ^ 24 }
+        requires uses { (id : ℕ) → uses_at self.old id + 1 < 2 ^ 32 }
+        ensures changes { IfOk result (λ id.
+            Changes self.old self.new id (used_again self.old id (relative home tree.now))) }
+        ensures kept { IfOk result (λ id.
+            IsLive self.old id → form_at self.old id ≡ relative home tree.now) }
+        ensures tree { IfOk result (λ id. tree_at self.new id home ≡ tree.now) }
+        ensures err { OnErr result (IsSame self.old self.new) }
+    {
+        let place = usize::from(home.col) % RECENT;
+        let recent = self.recent[place];
+        if self.has_form(recent, tree, home) {
+            return Ok(self.use_again(recent));
+        }
+        let digest = digest(tree, home);
+        let id = match self.find(digest, tree, home) {
+            Some(number) => self.use_again(number),
+            None => self.add(digest, tree, home)?,
+        };
+        self.recent[place] = id.number();
+        Ok(id)
+    }
+
+    fn use_again(&mut self, number: u32) -> CodeId
+        requires live { IsLive self.old number }
+        requires fits { uses_at self.old number + 1 < 2 ^ 32 }
+        ensures id { result ≡ number }
+        ensures changes { Changes self.old self.new number
+            (used_again self.old number (form_at self.old number)) }
+    {
+        let _ = self.slots.get(number);
+        let id = CodeId::of(number);
+        self.take(id, 1);
+        id
+    }
+
+    /// The number of a new code.
+    fn add(&mut self, digest: u64, tree: &Tree, home: Cell) -> Result<CodeId, NoMemory>
+        requires formed { is_formed tree.now ≡ true }
+        requires codes { live_count self.old < 2 ^ 24 }
+        requires digest { digest ≡ digest_at home tree.now }
+        requires missing { (id : ℕ) → ¬ HasForm self.old id (relative home tree.now) }
+        ensures changes { IfOk result (λ id.
+            Changes self.old self.new id (used_again self.old id (relative home tree.now))) }
+        ensures new { IfOk result (λ id. code_at self.old id ≡ None) }
+        ensures err { OnErr result (IsSame self.old self.new) }
+    {
+        let code = Kept::of(self.alloc, tree, home, digest)?;
+        let number = self.slots.insert(code)?;
+        if let Err(refused) = self.index.add(self.alloc, digest, number) {
+            self.slots.remove(number);
+            return Err(refused);
+        }
+        Ok(CodeId::of(number))
+    }
+
+    /// Adds uses of a code.
+    pub fn take(&mut self, id: CodeId, uses: u32)
+        requires live { IsLive self.old id }
+        requires fits { uses_at self.old id + uses < 2 ^ 32 }
+        ensures { Changes self.old self.new id
+            (with_uses (form_at self.old id) (uses_at self.old id + uses)) }
+    {
+        let number = id.number();
+        if let Some(code) = self.slots.get(number) {
+            let sum = code.uses() + uses;
+            self.slots.set_uses(number, sum);
+        }
+    }
+
+    /// Removes uses of a code, which goes with its last one. Then it is linear in the codes with one
+    /// digest.
+    pub fn give_back(&mut self, id: CodeId, uses: u32)
+        requires live { IsLive self.old id }
+        requires there { uses ≤ uses_at self.old id }
+        ensures { Changes self.old self.new id
+            (with_uses (form_at self.old id) (uses_at self.old id - uses)) }
+    {
+        let number = id.number();
+        let Some(code) = self.slots.get(number) else {
+            return;
+        };
+        let left = code.uses() - uses;
+        if left > 0 {
+            self.slots.set_uses(number, left);
+        } else {
+            let digest = code.digest();
+            self.index.remove(digest, number);
+            self.slots.remove(number);
+        }
+    }
+
+    /// The nodes of a code's tree at `home`, in postfix order.
+    pub fn tokens_at(&self, id: CodeId, home: Cell) -> Tokens<'_>
+        requires { IsCodeAt self.now id home }
+        ensures nodes { result ≡ postfix (tree_at self.now id home) }
+        ensures few { length result ≤ MOST_TOKENS }
+    {
+        match self.slots.get(id.number()) {
+            Some(code) => code.tokens(home),
+            None => unreachable!(),
+        }
+    }
+}
