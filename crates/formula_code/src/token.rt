@@ -1,4 +1,4 @@
-ghost use Rattle.std.specs.Prelude.{◌≡◌, true};
+ghost use Rattle.std.specs.Prelude.{◌≡◌, true, length, IsTrue, ◌↔◌, []};
 ghost use Rattle.formula_code.specs.Lent.{lent};
 ghost use Rattle.formula_code.specs.Tokens.{absolute_node, is_token};
 
@@ -78,6 +78,21 @@ impl<'a> Tokens<'a> {
         ensures { result ≡ nodes_at home nodes.entry.now }
     {
         Tokens { nodes, home }
+    }
+}
+
+impl Tokens<'_> {
+    /// How many are left.
+    pub fn len(&self) -> usize
+        ensures { result ≡ length self.now }
+    {
+        self.nodes.len()
+    }
+
+    pub fn is_empty(&self) -> bool
+        ensures { IsTrue result ↔ (self.now ≡ []) }
+    {
+        self.nodes.is_empty()
     }
 }
 
