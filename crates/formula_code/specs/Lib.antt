@@ -11,3 +11,4 @@ pub mod Kept
 pub mod Listed
 pub mod Slots
 pub mod Table
+pub mod Changes

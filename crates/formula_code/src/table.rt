@@ -5,6 +5,8 @@ ghost use Rattle.formula_code.specs.Digests.{digest_at};
 ghost use Rattle.formula_code.specs.Nodes.{postfix};
 ghost use Rattle.formula_code.specs.Relative.{relative};
 
+use crate::building::build;
+use crate::change::Change;
 use crate::digest::digest;
 use crate::index::Index;
 use crate::kept::Kept;
@@ -183,6 +185,14 @@ impl CodeTable {
             self.index.remove(digest, number);
             self.slots.remove(number);
         }
+    }
+
+    /// The tree of a code for a formula at `home`. Linear in its nodes and the bytes of its texts.
+    pub fn tree_at(&self, alloc: Global, id: CodeId, home: Cell) -> Result<Tree, NoMemory>
+        requires { IsCodeAt self.now id home }
+        ensures { IfOk result (λ tree. tree ≡ tree_at self.now id home) }
+    {
+        build(alloc, self.tokens_at(id, home), Change::Stays, home)
     }
 
     /// The nodes of a code's tree at `home`, in postfix order.
