@@ -12,3 +12,4 @@ pub mod Listed
 pub mod Slots
 pub mod Table
 pub mod Changes
+pub mod Homes
