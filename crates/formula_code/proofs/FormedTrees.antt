@@ -46,7 +46,7 @@ regroup true false true d = refl
 regroup true false false d = refl
 regroup false b c d = refl
 
-and_true : (a : Bool) → (a && true) ≡ a
+pub and_true : (a : Bool) → (a && true) ≡ a
 and_true true = refl
 and_true false = refl
 
@@ -88,7 +88,7 @@ all_parted level (x ∷ xs) known =
     ∙ ap (λ b. (stands level (without_references x) && rest) && b) (sym (list_all-append is_valid_node (postfix x) (flat_map postfix xs)))
 
 -- the references of a node with one more node behind its children's
-valid_behind : (nodes : List Node) (x : Tree) (node : Node) → postfix x ≡ nodes ++ node ∷ [] → is_valid_node node ≡ true → has_valid_references x ≡ list_all is_valid_node nodes
+pub valid_behind : (nodes : List Node) (x : Tree) (node : Node) → postfix x ≡ nodes ++ node ∷ [] → is_valid_node node ≡ true → has_valid_references x ≡ list_all is_valid_node nodes
 valid_behind nodes x node is valid =
     ap (list_all is_valid_node) is
     ∙ list_all-append is_valid_node nodes (node ∷ [])

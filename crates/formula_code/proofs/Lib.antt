@@ -12,3 +12,4 @@ pub mod Forms
 pub mod KeptForms
 pub mod SlotLemmas
 pub mod TableLemmas
+pub mod ChangedTrees

@@ -7,7 +7,7 @@ use Rattle.calc_addr.specs.Places.{Place, IsPlace}
 use Rattle.calc_model.specs.declared.fault.Fault.TheVariants.{Syntax}
 use Rattle.calc_model.specs.declared.tree.Tree.{Tree}
 use Rattle.calc_model.specs.declared.tree.Tree.TheVariants as t
-use Rattle.formula_code.specs.Codes.{Changes, Code, Codes, HasForm, IsLive, form_at, tree_at, used_again, uses_at}
+use Rattle.formula_code.specs.Codes.{Changes, Code, Codes, HasForm, IsInterned, IsLive, form_at, tree_at, used_again, uses_at}
 use Rattle.formula_code.specs.Relative.{absolute, relative}
 use Rattle.formula_code.proofs.Distances.{tree_back}
 use Rattle.formula_code.specs.declared.index.Index.{Index}
@@ -37,7 +37,7 @@ abbrev uses_of_slot : Option Code → ℕ
 uses_of_slot o = option_map_or (λ (code : Code). code.uses) o 0
 
 -- the code that a tree was interned as has it at its home
-pub interned_tree : (old new : Codes) (id : ℕ) (home : Place) (x form : Tree) → IsPlace home → Changes old new id (used_again old id form) → form ≡ relative home x → tree_at new id home ≡ x
+interned_tree : (old new : Codes) (id : ℕ) (home : Place) (x form : Tree) → IsPlace home → Changes old new id (used_again old id form) → form ≡ relative home x → tree_at new id home ≡ x
 interned_tree old new id home x form lies changes is =
     ap (λ o. absolute home (form_of_slot o)) changes.changed
     ∙ ap (absolute home) is
@@ -91,3 +91,10 @@ added_table codes after index indexed digest id form table changes adds digested
           (λ differs. subst (λ n. 0 < n) (sym (ap uses_of_slot (changes.others other differs))) (table.used other (live other differs is)))
           (cases_eq other id);
     }
+
+pub interned : (old new : Codes) (id : ℕ) (home : Place) (x form : Tree) → IsPlace home → Changes old new id (used_again old id form) → form ≡ relative home x → (IsLive old id → form_at old id ≡ relative home x) → IsInterned old new home x id
+interned old new id home x form lies changes is kept = record {
+  changes = subst (λ f. Changes old new id (used_again old id f)) is changes;
+  kept = kept;
+  tree_back = interned_tree old new id home x form lies changes is;
+}

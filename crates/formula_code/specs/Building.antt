@@ -1,5 +1,5 @@
 -- The nodes of a tree's relative form, and the trees that nodes in postfix order build.
-use Rattle.std.specs.Prelude.{nat_le, List, [], ◌∷◌, length, take, drop, reverse, Option, Some, None, option_and_then, if◌then◌else◌}
+use Rattle.std.specs.Prelude.{◌≡◌, nat_le, List, [], ◌∷◌, length, take, drop, reverse, Option, Some, None, option_and_then, if◌then◌else◌}
 use Rattle.calc_addr.specs.Places.{Place}
 use Rattle.calc_addr.specs.References.{Reference}
 use Rattle.calc_model.specs.declared.fault.Fault.TheVariants.{Syntax}
@@ -40,6 +40,10 @@ module _ (by : Reference → Tree) where
   unfoldable pub built : List Node → List Tree → Option (List Tree)
   built [] trees = Some trees
   built (node ∷ nodes) trees = option_and_then (built nodes) (built_on node trees)
+
+-- the nodes build one tree
+abbrev pub Builds : (Reference → Tree) → List Node → Tree → Type 0
+Builds by nodes tree = built by nodes [] ≡ Some (tree ∷ [])
 
 -- the top of a stack
 abbrev pub top_of : Option (List Tree) → Tree

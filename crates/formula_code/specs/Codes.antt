@@ -1,6 +1,6 @@
 -- A table of codes: for each number the code that has it, if one is live. A code is a relative form and the
 -- number of its uses.
-use Rattle.std.specs.Prelude.{◌≡◌, ◌≢◌, ◌<◌, ◌+◌, ℕ, ◌==◌, Bool, true, List, count_by, Option, Some, None, is_some, IsSome, option_map, slice_index_or, if◌then◌else◌, refl}
+use Rattle.std.specs.Prelude.{◌≡◌, ◌≢◌, ◌<◌, ◌+◌, ◌^◌, ℕ, ◌==◌, Bool, true, List, count_by, Option, Some, None, is_some, IsSome, option_map, slice_index_or, if◌then◌else◌, refl}
 use Rattle.std.specs.Option.{option_map_or}
 use Rattle.std.specs.List.{list_all}
 use Rattle.std.specs.Coded.{Coded, code_by, coded×, coded_ℕ}
@@ -10,7 +10,7 @@ use Rattle.calc_model.specs.declared.tree.Tree.{Tree}
 use Rattle.calc_model.specs.declared.tree.Tree.TheVariants.{Bad}
 use Rattle.calc_model.specs.declared.fault.Fault.TheVariants.{Syntax}
 use Rattle.formula_code.specs.Nodes.{postfix}
-use Rattle.formula_code.specs.Relative.{absolute}
+use Rattle.formula_code.specs.Relative.{absolute, relative}
 use Rattle.formula_code.specs.Tokens.{is_valid_node}
 
 pub record Code : Type 0 where
@@ -87,3 +87,14 @@ AreUsed codes = (id : ℕ) → IsLive codes id → 0 < uses_at codes id
 -- another use of a code, or the first one of a form
 abbrev pub used_again : Codes → ℕ → Tree → Option Code
 used_again codes id form = Some (record { form = form; uses = uses_at codes id + 1 })
+
+-- There is room for one code more, and for one use more of each.
+pub record HasRoom (codes : Codes) : Type 0 where
+  pub codes_left : live_count codes < 2 ^ 24
+  pub uses_left : (id : ℕ) → uses_at codes id + 1 < 2 ^ 32
+
+-- The number has the form of the tree at home, and one use more. It had that form before, or none.
+pub record IsInterned (old new : Codes) (home : Place) (tree : Tree) (id : ℕ) : Type 0 where
+  pub changes : Changes old new id (used_again old id (relative home tree))
+  pub kept : IsLive old id → form_at old id ≡ relative home tree
+  pub tree_back : tree_at new id home ≡ tree

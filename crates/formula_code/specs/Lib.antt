@@ -11,3 +11,5 @@ pub mod Kept
 pub mod Listed
 pub mod Slots
 pub mod Table
+pub mod Changes
+pub mod Homes

@@ -86,6 +86,7 @@ impl Kept {
         requires { has_valid_references (absolute home self.now.form) ≡ true }
         ensures nodes { result ≡ postfix (absolute home self.now.form) }
         ensures few { length result ≤ MOST_TOKENS }
+        ensures formed { is_formed (absolute home self.now.form) ≡ true }
     {
         Tokens::of(self.nodes.as_slice(), home)
     }

@@ -1,6 +1,8 @@
 //! Formulas as arrays of tokens in postfix order, relative to their cell, each form kept once.
 #![tactic(auto)]
 
+mod building;
+mod change;
 mod digest;
 mod index;
 mod kept;

@@ -1,10 +1,15 @@
 ghost use Rattle.std.specs.Prelude.{◌≡◌, ◌<◌, ◌≤◌, ◌^◌, ◌+◌, ◌-◌, ◌↔◌, ℕ, [], None, true, IfNone, IfOk, IfSome, IsTrue, OnErr, length};
 ghost use Rattle.calc_model.specs.Formed.{is_formed};
-ghost use Rattle.formula_code.specs.Codes.{AreApart, AreUsed, Changes, HasForm, IsCodeAt, IsLive, IsSame, code_at, form_at, live_count, tree_at, used_again, uses_at, with_uses};
+ghost use Rattle.formula_code.specs.Codes.{AreApart, AreUsed, Changes, HasForm, HasRoom, IsCodeAt, IsInterned, IsLive, IsSame, code_at, form_at, live_count, tree_at, used_again, uses_at, with_uses};
+ghost use Rattle.calc_model.specs.TreeShifts.{moved_tree, replaced, tree_after_deletion, tree_after_insertion};
+ghost use Rattle.formula_code.specs.Changes.{IsChange, IsShift, changed};
 ghost use Rattle.formula_code.specs.Digests.{digest_at};
+ghost use Rattle.formula_code.specs.Homes.{StaysDeleted, StaysInserted, cols_between, home_after_deletion, home_after_insertion, rows_between};
 ghost use Rattle.formula_code.specs.Nodes.{postfix};
 ghost use Rattle.formula_code.specs.Relative.{relative};
 
+use crate::building::build;
+use crate::change::Change;
 use crate::digest::digest;
 use crate::index::Index;
 use crate::kept::Kept;
@@ -93,13 +98,8 @@ impl CodeTable {
     /// code is live, and then without memory.
     pub fn intern(&mut self, tree: &Tree, home: Cell) -> Result<CodeId, NoMemory>
         requires formed { is_formed tree.now ≡ true }
-        requires codes { live_count self.old < 2 ^ 24 }
-        requires uses { (id : ℕ) → uses_at self.old id + 1 < 2 ^ 32 }
-        ensures changes { IfOk result (λ id.
-            Changes self.old self.new id (used_again self.old id (relative home tree.now))) }
-        ensures kept { IfOk result (λ id.
-            IsLive self.old id → form_at self.old id ≡ relative home tree.now) }
-        ensures tree { IfOk result (λ id. tree_at self.new id home ≡ tree.now) }
+        requires room { HasRoom self.old }
+        ensures interned { IfOk result (IsInterned self.old self.new home tree.now) }
         ensures err { OnErr result (IsSame self.old self.new) }
     {
         let place = usize::from(home.col) % RECENT;
@@ -185,15 +185,150 @@ impl CodeTable {
         }
     }
 
+    /// The tree of a code for a formula at `home`. Linear in its nodes and the bytes of its texts.
+    pub fn tree_at(&self, alloc: Global, id: CodeId, home: Cell) -> Result<Tree, NoMemory>
+        requires { IsCodeAt self.now id home }
+        ensures { IfOk result (λ tree. tree ≡ tree_at self.now id home) }
+    {
+        build(alloc, self.tokens_at(id, home), Change::Stays, home)
+    }
+
     /// The nodes of a code's tree at `home`, in postfix order.
     pub fn tokens_at(&self, id: CodeId, home: Cell) -> Tokens<'_>
         requires { IsCodeAt self.now id home }
         ensures nodes { result ≡ postfix (tree_at self.now id home) }
         ensures few { length result ≤ MOST_TOKENS }
+        ensures formed { is_formed (tree_at self.now id home) ≡ true }
     {
         match self.slots.get(id.number()) {
             Some(code) => code.tokens(home),
             None => unreachable!(),
         }
+    }
+
+    /// The code of the moved formula at its new cell, which has one use more. Linear in the formula.
+    pub fn moved(&mut self, id: CodeId, from: Cell, to: Cell) -> Result<CodeId, NoMemory>
+        requires at { IsCodeAt self.old id from }
+        requires room { HasRoom self.old }
+        ensures moved { IfOk result (IsInterned self.old self.new to
+            (moved_tree (cols_between from to) (rows_between from to) (tree_at self.old id from))) }
+        ensures err { OnErr result (IsSame self.old self.new) }
+    {
+        let cols = i32::from(to.col) - i32::from(from.col);
+        let rows = to.row as i32 - from.row as i32;
+        self.intern_changed(id, from, Change::Moves { cols, rows }, to)
+    }
+
+    /// The code of the formula where rows of a sheet are inserted, at the cell to which it goes. It has
+    /// one use more. Linear in the formula.
+    pub fn row_inserted(
+        &mut self,
+        id: CodeId,
+        home: Cell,
+        sheet: u8,
+        place: u32,
+        count: u32,
+    ) -> Result<CodeId, NoMemory>
+        requires at { IsCodeAt self.old id home }
+        requires room { HasRoom self.old }
+        requires shift { IsShift place count }
+        requires stays { StaysInserted sheet place count home }
+        ensures shifted { IfOk result (IsInterned self.old self.new
+            (home_after_insertion sheet place count home)
+            (tree_after_insertion home sheet place count (tree_at self.old id home))) }
+        ensures err { OnErr result (IsSame self.old self.new) }
+    {
+        let to = home_after_insertion(sheet, place, count, home);
+        self.intern_changed(
+            id,
+            home,
+            Change::Inserted {
+                sheet,
+                place,
+                count,
+            },
+            to,
+        )
+    }
+
+    /// The code of the formula where rows of a sheet are deleted, at the cell to which it goes. It has
+    /// one use more. Linear in the formula.
+    pub fn row_deleted(
+        &mut self,
+        id: CodeId,
+        home: Cell,
+        sheet: u8,
+        place: u32,
+        count: u32,
+    ) -> Result<CodeId, NoMemory>
+        requires at { IsCodeAt self.old id home }
+        requires room { HasRoom self.old }
+        requires shift { IsShift place count }
+        requires stays { StaysDeleted sheet place count home }
+        ensures shifted { IfOk result (IsInterned self.old self.new
+            (home_after_deletion sheet place count home)
+            (tree_after_deletion home sheet place count (tree_at self.old id home))) }
+        ensures err { OnErr result (IsSame self.old self.new) }
+    {
+        let to = home_after_deletion(sheet, place, count, home);
+        self.intern_changed(
+            id,
+            home,
+            Change::Deleted {
+                sheet,
+                place,
+                count,
+            },
+            to,
+        )
+    }
+
+    /// The code of the formula at `home` with a change of its references, at the cell `to`.
+    fn intern_changed(
+        &mut self,
+        id: CodeId,
+        home: Cell,
+        change: Change,
+        to: Cell,
+    ) -> Result<CodeId, NoMemory>
+        requires at { IsCodeAt self.old id home }
+        requires room { HasRoom self.old }
+        requires change { IsChange change }
+        ensures interned { IfOk result (IsInterned self.old self.new to
+            (replaced (changed change home) (tree_at self.old id home))) }
+        ensures err { OnErr result (IsSame self.old self.new) }
+    {
+        let tree = build(self.alloc, self.tokens_at(id, home), change, home)?;
+        self.intern(&tree, to)
+    }
+}
+
+fn home_after_insertion(sheet: u8, place: u32, count: u32, home: Cell) -> Cell
+    requires shift { IsShift place count }
+    requires stays { StaysInserted sheet place count home }
+    ensures { result ≡ home_after_insertion sheet place count home }
+{
+    if home.sheet == sheet && place <= home.row {
+        Cell {
+            row: home.row + count,
+            ..home
+        }
+    } else {
+        home
+    }
+}
+
+fn home_after_deletion(sheet: u8, place: u32, count: u32, home: Cell) -> Cell
+    requires shift { IsShift place count }
+    requires stays { StaysDeleted sheet place count home }
+    ensures { result ≡ home_after_deletion sheet place count home }
+{
+    if home.sheet == sheet && place <= home.row {
+        Cell {
+            row: home.row - count,
+            ..home
+        }
+    } else {
+        home
     }
 }
