@@ -6,20 +6,20 @@ use Rattle.calc_model.specs.Results.{shown_by}
 use Rattle.cell_map.specs.ResultMap.{results_of}
 use Rattle.formula_code.specs.Codes.{tree_at}
 use Rattle.calc_model.specs.Formed.{is_formed}
-use Rattle.plain_evaluator.proofs.Codes.{none_live, one_code}
+use Rattle.plain_evaluator.proofs.Codes.{one_code, room_in_none}
 use Rattle.plain_evaluator.proofs.eval.evaluate_formula.Goals as goal
 
-pub intern-requires-clause-codes : goal.intern-requires-clause-codes
-intern-requires-clause-codes g c = omega (arith, none_live c.args.codes.now c.requires.empty)
+pub intern-requires-clause-room : goal.intern-requires-clause-room
+intern-requires-clause-room g c = room_in_none c.args.codes.now c.requires.empty
 
 pub interpret-value-requires-clause-code : goal.interpret-value-requires-clause-code
 interpret-value-requires-clause-code g c =
-    one_code c.args.codes.now c.intern.new.self c.in_ok-id.id c.args.home c.tree.result.now (subst (λ t. is_formed t ≡ true) (sym c.tree.ensures.value) c.tree.ensures.formed) c.in_ok-id.ensures.changes c.in_ok-id.ensures.tree
+    one_code c.args.codes.now c.intern.new.self c.in_ok-id.id c.args.home c.tree.result.now (subst (λ t. is_formed t ≡ true) (sym c.tree.ensures.value) c.tree.ensures.formed) c.in_ok-id.ensures.interned
 
 pub returns-clause-value : goal.returns-clause-value
 returns-clause-value g c =
     let home = c.args.home in
     let names = area_named c.args.cells.now in
     let shown = shown_by c.args.cells.now (results_of c.args.results.now) in
-    subst (λ tree. IfOk c.interpret-value.result (λ v. v ≡ top (eval home names shown tree))) (c.in_ok-id.ensures.tree ∙ c.tree.ensures.value)
+    subst (λ tree. IfOk c.interpret-value.result (λ v. v ≡ top (eval home names shown tree))) (c.in_ok-id.ensures.interned.tree_back ∙ c.tree.ensures.value)
     (subst (λ values. IfOk c.interpret-value.result (λ v. v ≡ top (eval home names values (tree_at c.intern.new.self c.in_ok-id.id home)))) c.of-shown.ensures c.interpret-value.ensures.value)
