@@ -13,3 +13,5 @@ pub mod KeptForms
 pub mod SlotLemmas
 pub mod TableLemmas
 pub mod ChangedTrees
+pub mod SameNames
+pub mod EarLists

@@ -4,6 +4,7 @@
 mod building;
 mod change;
 mod digest;
+mod ears;
 mod index;
 mod kept;
 mod matching;
