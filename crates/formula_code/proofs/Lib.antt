@@ -15,3 +15,4 @@ pub mod TableLemmas
 pub mod ChangedTrees
 pub mod SameNames
 pub mod EarLists
+pub mod RunReads
