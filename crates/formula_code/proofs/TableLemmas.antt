@@ -7,8 +7,10 @@ use Rattle.calc_addr.specs.Places.{Place, IsPlace}
 use Rattle.calc_model.specs.declared.fault.Fault.TheVariants.{Syntax}
 use Rattle.calc_model.specs.declared.tree.Tree.{Tree}
 use Rattle.calc_model.specs.declared.tree.Tree.TheVariants as t
-use Rattle.formula_code.specs.Codes.{Changes, Code, Codes, HasForm, IsInterned, IsLive, form_at, tree_at, used_again, uses_at}
+use Rattle.formula_code.specs.Codes.{Changes, Code, Codes, HasForm, IsInterned, IsLive, form_at, has_valid_references, tree_at, used_again, uses_at}
 use Rattle.formula_code.specs.Relative.{absolute, relative}
+use Rattle.calc_model.specs.Formed.{is_formed}
+use Rattle.formula_code.proofs.Forms.{formed_is_valid}
 use Rattle.formula_code.proofs.Distances.{tree_back}
 use Rattle.formula_code.specs.declared.index.Index.{Index}
 use Rattle.formula_code.specs.Digests.{form_digest}
@@ -92,9 +94,13 @@ added_table codes after index indexed digest id form table changes adds digested
           (cases_eq other id);
     }
 
-pub interned : (old new : Codes) (id : ℕ) (home : Place) (x form : Tree) → IsPlace home → Changes old new id (used_again old id form) → form ≡ relative home x → (IsLive old id → form_at old id ≡ relative home x) → IsInterned old new home x id
-interned old new id home x form lies changes is kept = record {
+pub interned : (old new : Codes) (id : ℕ) (home : Place) (x form : Tree) → IsPlace home → is_formed x ≡ true → Changes old new id (used_again old id form) → form ≡ relative home x → (IsLive old id → form_at old id ≡ relative home x) → IsInterned old new home x id
+interned old new id home x form lies formed changes is kept = record {
   changes = subst (λ f. Changes old new id (used_again old id f)) is changes;
   kept = kept;
   tree_back = interned_tree old new id home x form lies changes is;
+  at_home = record {
+    live = subst IsSome (sym changes.changed) refl;
+    valid = ap has_valid_references (interned_tree old new id home x form lies changes is) ∙ formed_is_valid x formed;
+  };
 }

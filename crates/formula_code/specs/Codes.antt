@@ -93,8 +93,10 @@ pub record HasRoom (codes : Codes) : Type 0 where
   pub codes_left : live_count codes < 2 ^ 24
   pub uses_left : (id : ℕ) → uses_at codes id + 1 < 2 ^ 32
 
--- The number has the form of the tree at home, and one use more. It had that form before, or none.
+-- The number has the form of the tree at home, and one use more. It had that form before, or none. At home it has
+-- the tree.
 pub record IsInterned (old new : Codes) (home : Place) (tree : Tree) (id : ℕ) : Type 0 where
   pub changes : Changes old new id (used_again old id (relative home tree))
   pub kept : IsLive old id → form_at old id ≡ relative home tree
   pub tree_back : tree_at new id home ≡ tree
+  pub at_home : IsCodeAt new id home

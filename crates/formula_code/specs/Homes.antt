@@ -1,5 +1,5 @@
 -- Where the cell of a formula goes, and how far it moves.
-use Rattle.std.specs.Prelude.{◌≡◌, ◌≤◌, ℕ, ℤ, pos, ◌-ℤ◌, ◌==◌, false, if◌then◌else◌}
+use Rattle.std.specs.Prelude.{◌≡◌, ◌≤◌, ◌+◌, ℕ, ℤ, pos, ◌-ℤ◌, ◌==◌, false, if◌then◌else◌}
 use Rattle.calc_addr.specs.declared.cell.TheConstants.{LAST_ROW}
 use Rattle.calc_addr.specs.Places.{Place}
 use Rattle.calc_addr.specs.Shifts.{is_deleted, place_after_deletion, place_after_insertion, row_after_insertion}
@@ -25,3 +25,7 @@ StaysInserted sheet place count home = home.sheet ≡ sheet → row_after_insert
 -- the cell isn't deleted
 abbrev pub StaysDeleted : ℕ → ℕ → ℕ → Place → Type 0
 StaysDeleted sheet place count home = home.sheet ≡ sheet → is_deleted place count home.row ≡ false
+
+-- the cell so many rows below
+abbrev pub rows_below : Place → ℕ → Place
+rows_below home distance = record home { row = home.row + distance }

@@ -13,3 +13,5 @@ pub mod Slots
 pub mod Table
 pub mod Changes
 pub mod Homes
+pub mod Names
+pub mod Ears

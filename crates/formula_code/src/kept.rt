@@ -2,6 +2,7 @@ ghost use Rattle.std.specs.Prelude.{◌≡◌, ◌↔◌, IfOk, IsTrue, length, 
 ghost use Rattle.calc_model.specs.Formed.{is_formed};
 ghost use Rattle.formula_code.specs.Codes.{has_valid_references};
 ghost use Rattle.formula_code.specs.Digests.{digest_at, form_digest};
+ghost use Rattle.formula_code.specs.Names.{UsesName};
 ghost use Rattle.formula_code.specs.Nodes.{postfix};
 ghost use Rattle.formula_code.specs.Relative.{absolute, relative};
 
@@ -89,5 +90,12 @@ impl Kept {
         ensures formed { is_formed (absolute home self.now.form) ≡ true }
     {
         Tokens::of(self.nodes.as_slice(), home)
+    }
+
+    /// Whether a node has that name, whatever the case of its ASCII letters.
+    pub(crate) fn uses_name(&self, name: &[u8]) -> bool
+        ensures { IsTrue result ↔ UsesName self.now.form name.now }
+    {
+        self.nodes.iter().any(|node| node.is_named(name))
     }
 }

@@ -4,8 +4,10 @@
 mod building;
 mod change;
 mod digest;
+mod ears;
 mod index;
 mod kept;
+mod laws;
 mod matching;
 mod node;
 mod relative;
@@ -14,6 +16,7 @@ mod table;
 mod token;
 mod writing;
 
+pub use laws::ears_give_reads;
 pub use node::Node;
 pub use relative::RelativeRef;
 pub use table::CodeTable;

@@ -171,7 +171,7 @@ fn has_cols(span: Span) -> bool
     !matches!(span, Span::Rows)
 }
 
-fn has_rows(span: Span) -> bool
+pub(crate) fn has_rows(span: Span) -> bool
     ensures { result ≡ has_rows span }
 {
     !matches!(span, Span::Columns)

@@ -1,22 +1,25 @@
-ghost use Rattle.std.specs.Prelude.{◌≡◌, ◌<◌, ◌≤◌, ◌^◌, ◌+◌, ◌-◌, ◌↔◌, ℕ, [], None, true, IfNone, IfOk, IfSome, IsTrue, OnErr, length};
+ghost use Rattle.std.specs.Prelude.{◌≡◌, ◌<◌, ◌≤◌, ◌^◌, ◌+◌, ◌-◌, ◌↔◌, ℕ, [], None, true, IfNone, IfOk, IfSome, IsTrue, OnErr, OnOk, ◌++◌, length};
 ghost use Rattle.calc_model.specs.Formed.{is_formed};
 ghost use Rattle.formula_code.specs.Codes.{AreApart, AreUsed, Changes, HasForm, HasRoom, IsCodeAt, IsInterned, IsLive, IsSame, code_at, form_at, live_count, tree_at, used_again, uses_at, with_uses};
 ghost use Rattle.calc_model.specs.TreeShifts.{moved_tree, replaced, tree_after_deletion, tree_after_insertion};
 ghost use Rattle.formula_code.specs.Changes.{IsChange, IsShift, changed};
 ghost use Rattle.formula_code.specs.Digests.{digest_at};
+ghost use Rattle.formula_code.specs.Ears.{ears};
 ghost use Rattle.formula_code.specs.Homes.{StaysDeleted, StaysInserted, cols_between, home_after_deletion, home_after_insertion, rows_between};
+ghost use Rattle.formula_code.specs.Names.{UsesName};
 ghost use Rattle.formula_code.specs.Nodes.{postfix};
 ghost use Rattle.formula_code.specs.Relative.{relative};
 
 use crate::building::build;
 use crate::change::Change;
 use crate::digest::digest;
+use crate::ears::push_ears;
 use crate::index::Index;
 use crate::kept::Kept;
 use crate::slots::Slots;
 use crate::token::Tokens;
 use calc_addr::{Cell, NoMemory};
-use calc_model::{CodeId, MOST_TOKENS, Tree};
+use calc_model::{CodeId, Ear, MOST_TOKENS, NameTable, Tree};
 use std::alloc::Global;
 use std::marker::Model;
 
@@ -202,6 +205,39 @@ impl CodeTable {
     {
         match self.slots.get(id.number()) {
             Some(code) => code.tokens(home),
+            None => unreachable!(),
+        }
+    }
+
+    /// Appends what the formula at `home` reads, with the ends that move. Linear in its nodes, with a lookup
+    /// for each name.
+    pub fn ears_at<N: NameTable>(
+        &self,
+        id: CodeId,
+        home: Cell,
+        names: &N,
+        out: &mut Vec<Ear>,
+    ) -> Result<(), NoMemory>
+        requires { IsCodeAt self.now id home }
+        ensures ears { OnOk result (out.new.items ≡ out.old.items
+            ++ ears home (N.entries names.now) (tree_at self.now id home)) }
+        ensures err { OnErr result (out.new.items ≡ out.old.items) }
+    {
+        let before = out.len();
+        let pushed = push_ears(self.tokens_at(id, home), home, names, out);
+        if pushed.is_err() {
+            out.truncate(before);
+        }
+        pushed
+    }
+
+    /// Whether the formula has that name, whatever the case of its ASCII letters. Linear in its nodes.
+    pub fn uses_name(&self, id: CodeId, name: &[u8]) -> bool
+        requires { IsLive self.now id }
+        ensures { IsTrue result ↔ UsesName (form_at self.now id) name.now }
+    {
+        match self.slots.get(id.number()) {
+            Some(code) => code.uses_name(name),
             None => unreachable!(),
         }
     }
