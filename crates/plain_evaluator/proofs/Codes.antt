@@ -3,11 +3,7 @@ use Rattle.std.proofs.Common.{◌≡◌, ℕ, suc, ◌+◌, ◌<◌, ◌^◌, li
 use Rattle.std.specs.Prelude.{IsSome, is_some, count_by}
 use Rattle.std.specs.Option.{option_map_or}
 use Rattle.std.proofs.lemmas.List.Sums.{sum_by-cons}
-use Rattle.calc_addr.specs.Places.{Place}
-use Rattle.calc_model.specs.declared.tree.Tree.{Tree}
-use Rattle.calc_model.specs.Formed.{is_formed}
-use Rattle.formula_code.specs.Codes.{Code, Codes, HasRoom, IsCodeAt, IsInterned, has_valid_references, live_count}
-use Rattle.formula_code.proofs.Forms.{formed_is_valid}
+use Rattle.formula_code.specs.Codes.{Code, Codes, HasRoom, live_count}
 use Rattle.plain_evaluator.specs.Plain.{IsEmpty}
 
 one : Option Code → ℕ
@@ -29,11 +25,4 @@ pub room_in_none : (codes : Codes) → IsEmpty codes → HasRoom codes
 room_in_none codes empty = record {
   codes_left = omega (arith, none_live codes empty);
   uses_left = λ id. subst (λ (code : Option Code). option_map_or (λ (c : Code). c.uses) code 0 + 1 < 2 ^ 32) (sym (empty id)) (lit< tt);
-}
-
--- the code of a formed tree can be run at its cell
-pub one_code : (old new : Codes) (id : ℕ) (home : Place) (tree : Tree) → is_formed tree ≡ true → IsInterned old new home tree id → IsCodeAt new id home
-one_code old new id home tree formed interned = record {
-  live = subst IsSome (sym interned.changes.changed) refl;
-  valid = subst (λ t. has_valid_references t ≡ true) (sym interned.tree_back) (formed_is_valid tree formed);
 }

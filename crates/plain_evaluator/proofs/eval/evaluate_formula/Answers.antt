@@ -1,20 +1,15 @@
 use Rattle.std.proofs.Common.{◌≡◌, ap, subst, sym, ◌∙◌, arith}
-use Rattle.std.specs.Prelude.{true, IfOk}
+use Rattle.std.specs.Prelude.{IfOk}
 use Rattle.calc_model.specs.Books.{area_named}
 use Rattle.calc_model.specs.Eval.{eval, top}
 use Rattle.calc_model.specs.Results.{shown_by}
 use Rattle.cell_map.specs.ResultMap.{results_of}
 use Rattle.formula_code.specs.Codes.{tree_at}
-use Rattle.calc_model.specs.Formed.{is_formed}
-use Rattle.plain_evaluator.proofs.Codes.{one_code, room_in_none}
+use Rattle.plain_evaluator.proofs.Codes.{room_in_none}
 use Rattle.plain_evaluator.proofs.eval.evaluate_formula.Goals as goal
 
 pub intern-requires-clause-room : goal.intern-requires-clause-room
 intern-requires-clause-room g c = room_in_none c.args.codes.now c.requires.empty
-
-pub interpret-value-requires-clause-code : goal.interpret-value-requires-clause-code
-interpret-value-requires-clause-code g c =
-    one_code c.args.codes.now c.intern.new.self c.in_ok-id.id c.args.home c.tree.result.now (subst (λ t. is_formed t ≡ true) (sym c.tree.ensures.value) c.tree.ensures.formed) c.in_ok-id.ensures.interned
 
 pub returns-clause-value : goal.returns-clause-value
 returns-clause-value g c =
