@@ -16,7 +16,7 @@ use std::sync::ledger::Ledger;
 
 /// The most tokens of a formula that is run over the short stack. Most formulas have fewer, and a stack
 /// takes time in proportion to its size.
-const FEW_TOKENS: usize = 16;
+const FEW_TOKENS: usize = 8;
 
 /// The value that the formula of a code shows at its cell, over the names and what cells show (OpenFormula,
 /// 3.4). A blank one is 0. It counts one step, and is linear in the formula's tokens; memory is taken only

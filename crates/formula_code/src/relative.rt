@@ -97,6 +97,7 @@ impl RelativeRef {
     }
 
     /// The reference of that form of a formula at `home`.
+    #[inline(always)]
     pub fn at(self, home: Cell) -> Ref
         requires { IsValidReference (absolute_reference home self) }
         ensures { result ≡ absolute_reference home self }

@@ -27,6 +27,7 @@ pub enum Token<'a> {
 
 impl Node {
     /// The node of a formula at `home`, lent.
+    #[inline(always)]
     fn lent_at(&self, home: Cell) -> Token<'_>
         requires { is_token (absolute_node home self.now) ≡ true }
         ensures { lent result ≡ absolute_node home self.now }
@@ -105,6 +106,7 @@ impl<'a> Iterator for Tokens<'a> {
 
     ghost remaining = { item_count (λ nodes. nodes) };
 
+    #[inline(always)]
     fn next(&mut self) -> Option<Token<'a>> {
         let (first, rest) = self.nodes.split_first()?;
         self.nodes = rest;
