@@ -16,3 +16,4 @@ pub mod ChangedTrees
 pub mod SameNames
 pub mod EarLists
 pub mod RunReads
+pub mod StayingForms
