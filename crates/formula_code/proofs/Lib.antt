@@ -17,3 +17,4 @@ pub mod SameNames
 pub mod EarLists
 pub mod RunReads
 pub mod StayingForms
+pub mod Totals
