@@ -18,3 +18,4 @@ pub mod EarLists
 pub mod RunReads
 pub mod StayingForms
 pub mod Totals
+mod FormExamples

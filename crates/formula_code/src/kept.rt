@@ -27,8 +27,6 @@ pub(crate) struct Kept {
 }
 
 impl Model for Kept {
-    ghost use Rattle.calc_model.specs.TreeShifts.{replaced};
-    ghost use Rattle.formula_code.specs.Changes.{IsChange, changed};
     ghost use Rattle.formula_code.specs.Codes.{Code, code_of_code};
 
     ghost Value = { Code };
