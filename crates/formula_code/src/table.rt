@@ -164,9 +164,12 @@ impl CodeTable {
             (with_uses (form_at self.old id) (uses_at self.old id + uses)) }
     {
         let number = id.number();
-        if let Some(code) = self.slots.get(number) {
-            let sum = code.uses() + uses;
-            self.slots.set_uses(number, sum);
+        match self.slots.get(number) {
+            Some(code) => {
+                let sum = code.uses() + uses;
+                self.slots.set_uses(number, sum);
+            }
+            None => unreachable!(),
         }
     }
 
@@ -180,7 +183,7 @@ impl CodeTable {
     {
         let number = id.number();
         let Some(code) = self.slots.get(number) else {
-            return;
+            unreachable!()
         };
         let left = code.uses() - uses;
         if left > 0 {
