@@ -26,7 +26,6 @@ mkdir -p "$work/crates/codes/src"
 for file in "$source"/program/*.rattle; do
     cp "$file" "$work/crates/codes/src/$(basename "$file" .rattle).rt"
 done
-cp -r "$source/program/proofs" "$work/crates/codes/"
 printf 'codes: formula_code formula_reader calc_model calc_addr\n' >>"$work/crates.txt"
 (cd "$work/crates/codes" && rt run --jobs 1 >/dev/null 2>"$work/log") || {
     cat "$work/log" >&2
