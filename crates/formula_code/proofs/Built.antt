@@ -107,3 +107,6 @@ pub only_built : (by : Reference → Tree) (nodes : List Node) (x y : Tree) → 
 only_built by nodes x y is built_y =
     let both : Some (y ∷ []) ≡ Some (replaced by x ∷ []) = sym built_y ∙ ap (λ ns. built by ns []) is ∙ built_whole by x in
     cc
+
+pub one_tree : (x y : Tree) → postfix x ≡ postfix y → x ≡ y
+one_tree x y same = sym (tree_of-postfix x) ∙ ap tree_of same ∙ tree_of-postfix y

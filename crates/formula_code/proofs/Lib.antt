@@ -16,3 +16,6 @@ pub mod ChangedTrees
 pub mod SameNames
 pub mod EarLists
 pub mod RunReads
+pub mod StayingForms
+pub mod Totals
+mod FormExamples

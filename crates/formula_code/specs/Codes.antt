@@ -1,6 +1,6 @@
 -- A table of codes: for each number the code that has it, if one is live. A code is a relative form and the
 -- number of its uses.
-use Rattle.std.specs.Prelude.{◌≡◌, ◌≢◌, ◌<◌, ◌+◌, ◌^◌, ℕ, ◌==◌, Bool, true, List, count_by, Option, Some, None, is_some, IsSome, option_map, slice_index_or, if◌then◌else◌, refl}
+use Rattle.std.specs.Prelude.{◌≡◌, ◌≢◌, ◌<◌, ◌+◌, ◌^◌, ℕ, ◌==◌, Bool, true, List, count_by, Option, Some, None, is_some, IsSome, sum_by, option_map, slice_index_or, if◌then◌else◌, refl}
 use Rattle.std.specs.Option.{option_map_or}
 use Rattle.std.specs.List.{list_all}
 use Rattle.std.specs.Coded.{Coded, code_by, coded×, coded_ℕ}
@@ -38,8 +38,15 @@ live_count codes = count_by is_some codes
 abbrev pub form_at : Codes → ℕ → Tree
 form_at codes id = option_map_or (λ (code : Code). code.form) (code_at codes id) (Bad Syntax)
 
+abbrev pub slot_uses : Option Code → ℕ
+slot_uses slot = option_map_or (λ (code : Code). code.uses) slot 0
+
 abbrev pub uses_at : Codes → ℕ → ℕ
-uses_at codes id = option_map_or (λ (code : Code). code.uses) (code_at codes id) 0
+uses_at codes id = slot_uses (code_at codes id)
+
+-- the uses of all codes
+abbrev pub total_uses : Codes → ℕ
+total_uses codes = sum_by slot_uses codes
 
 -- the tree of a code for a formula at home
 abbrev pub tree_at : Codes → ℕ → Place → Tree

@@ -15,3 +15,4 @@ pub mod Changes
 pub mod Homes
 pub mod Names
 pub mod Ears
+pub mod Staying

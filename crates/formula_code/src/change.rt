@@ -23,24 +23,28 @@ impl Change {
         requires { IsChange self }
         ensures { result ≡ changed self home reference }
     {
+        or_deleted(self.reference(home, reference))
+    }
+
+    /// What becomes of a reference of the formula at `home`, or None where it is deleted.
+    pub(crate) fn reference(self, home: Cell, reference: Ref) -> Option<Ref>
+        requires { IsChange self }
+        ensures { or_deleted result ≡ changed self home reference }
+    {
         match self {
-            Change::Stays => Tree::Ref(reference),
-            Change::Moves { cols, rows } => or_deleted(move_ref(reference, cols, rows)),
+            Change::Stays => Some(reference),
+            Change::Moves { cols, rows } => move_ref(reference, cols, rows),
             Change::Inserted {
                 sheet,
                 place,
                 count,
-            } if reference.here(home).sheet == sheet => {
-                or_deleted(insert_row_ref(reference, place, count))
-            }
+            } if reference.here(home).sheet == sheet => { insert_row_ref(reference, place, count) }
             Change::Deleted {
                 sheet,
                 place,
                 count,
-            } if reference.here(home).sheet == sheet => {
-                or_deleted(delete_row_ref(reference, place, count))
-            }
-            _ => Tree::Ref(reference),
+            } if reference.here(home).sheet == sheet => { delete_row_ref(reference, place, count) }
+            _ => Some(reference),
         }
     }
 }

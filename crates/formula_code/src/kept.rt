@@ -1,11 +1,14 @@
 ghost use Rattle.std.specs.Prelude.{◌≡◌, ◌↔◌, IfOk, IsTrue, length, ◌≤◌, true};
 ghost use Rattle.calc_model.specs.Formed.{is_formed};
+ghost use Rattle.calc_model.specs.TreeShifts.{replaced};
+ghost use Rattle.formula_code.specs.Changes.{IsChange, changed};
 ghost use Rattle.formula_code.specs.Codes.{has_valid_references};
 ghost use Rattle.formula_code.specs.Digests.{digest_at, form_digest};
 ghost use Rattle.formula_code.specs.Names.{UsesName};
 ghost use Rattle.formula_code.specs.Nodes.{postfix};
 ghost use Rattle.formula_code.specs.Relative.{absolute, relative};
 
+use crate::change::Change;
 use crate::matching::strip;
 use crate::node::Node;
 use crate::token::Tokens;
@@ -97,5 +100,22 @@ impl Kept {
         ensures { IsTrue result ↔ UsesName self.now.form name.now }
     {
         self.nodes.iter().any(|node| node.is_named(name))
+    }
+
+    /// Whether the form stays as it is where the formula at `home` changes and goes to `to`. False says
+    /// nothing. Linear in the nodes.
+    pub(crate) fn stays(&self, home: Cell, change: Change, to: Cell) -> bool
+        requires valid { has_valid_references (absolute home self.now.form) ≡ true }
+        requires change { IsChange change }
+        ensures { IsTrue result
+            → relative to (replaced (changed change home) (absolute home self.now.form))
+            ≡ self.now.form }
+    {
+        for node in self.nodes.as_slice() {
+            if !node.stays(home, change, to) {
+                return false;
+            }
+        }
+        true
     }
 }

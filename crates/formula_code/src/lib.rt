@@ -16,7 +16,7 @@ mod table;
 mod token;
 mod writing;
 
-pub use laws::ears_give_reads;
+pub use laws::{ears_give_reads, forms_are_trees, uses_add_up};
 pub use node::Node;
 pub use relative::RelativeRef;
 pub use table::CodeTable;

@@ -1,7 +1,9 @@
-ghost use Rattle.std.specs.Prelude.{◌≡◌, ◌↔◌, IsTrue};
+ghost use Rattle.std.specs.Prelude.{◌≡◌, ◌↔◌, IsTrue, true};
 ghost use Rattle.std.specs.Str.{str_to_ascii_uppercase};
 
+use crate::change::Change;
 use crate::relative::RelativeRef;
+use calc_addr::Cell;
 use calc_model::{Fault, Op, Text};
 use calc_num::Num;
 
@@ -23,7 +25,25 @@ pub enum Node {
 }
 
 impl Node {
+    ghost use Rattle.formula_code.specs.Changes.{IsChange};
     ghost use Rattle.formula_code.specs.Names.{IsNamed};
+    ghost use Rattle.formula_code.specs.Staying.{StaysAfter};
+    ghost use Rattle.formula_code.specs.Tokens.{absolute_node, is_valid_node};
+
+    /// Whether the node of a form stays as it is where the formula at `home` changes and goes to `to`.
+    pub(crate) fn stays(&self, home: Cell, change: Change, to: Cell) -> bool
+        requires valid { is_valid_node (absolute_node home self.now) ≡ true }
+        requires change { IsChange change }
+        ensures { IsTrue result → StaysAfter change home to self.now }
+    {
+        let Node::Ref(reference) = self else {
+            return true;
+        };
+        match change.reference(home, reference.at(home)) {
+            Some(changed) => RelativeRef::of(changed, to).is_same(*reference),
+            None => false,
+        }
+    }
 
     /// Whether it is that name, whatever the case of its ASCII letters.
     pub(crate) fn is_named(&self, name: &[u8]) -> bool

@@ -52,7 +52,7 @@ impl Model for RelativeRef {
 
 impl RelativeRef {
     /// The form of a reference of a formula at `home`.
-    pub fn of(r: Ref, home: Cell) -> RelativeRef
+    pub(crate) fn of(r: Ref, home: Cell) -> RelativeRef
         ensures { result ≡ relative_reference home r }
     {
         let cols = has_cols(r.span);
@@ -98,7 +98,7 @@ impl RelativeRef {
 
     /// The reference of that form of a formula at `home`.
     #[inline(always)]
-    pub fn at(self, home: Cell) -> Ref
+    pub(crate) fn at(self, home: Cell) -> Ref
         requires { IsValidReference (absolute_reference home self) }
         ensures { result ≡ absolute_reference home self }
     {

@@ -126,10 +126,14 @@ impl CodeTable {
         ensures changes { Changes self.old self.new number
             (used_again self.old number (form_at self.old number)) }
     {
-        let _ = self.slots.get(number);
-        let id = CodeId::of(number);
-        self.take(id, 1);
-        id
+        match self.slots.get(number) {
+            Some(code) => {
+                let uses = code.uses() + 1;
+                self.slots.set_uses(number, uses);
+                CodeId::of(number)
+            }
+            None => unreachable!(),
+        }
     }
 
     /// The number of a new code.
@@ -160,9 +164,12 @@ impl CodeTable {
             (with_uses (form_at self.old id) (uses_at self.old id + uses)) }
     {
         let number = id.number();
-        if let Some(code) = self.slots.get(number) {
-            let sum = code.uses() + uses;
-            self.slots.set_uses(number, sum);
+        match self.slots.get(number) {
+            Some(code) => {
+                let sum = code.uses() + uses;
+                self.slots.set_uses(number, sum);
+            }
+            None => unreachable!(),
         }
     }
 
@@ -176,7 +183,7 @@ impl CodeTable {
     {
         let number = id.number();
         let Some(code) = self.slots.get(number) else {
-            return;
+            unreachable!()
         };
         let left = code.uses() - uses;
         if left > 0 {
@@ -319,6 +326,20 @@ impl CodeTable {
         )
     }
 
+    /// Whether the code serves the changed formula at the cell `to` too. False says nothing.
+    fn stays(&self, id: CodeId, home: Cell, change: Change, to: Cell) -> bool
+        requires at { IsCodeAt self.now id home }
+        requires change { IsChange change }
+        ensures { IsTrue result
+            → relative to (replaced (changed change home) (tree_at self.now id home))
+            ≡ form_at self.now id }
+    {
+        match self.slots.get(id.number()) {
+            Some(code) => code.stays(home, change, to),
+            None => unreachable!(),
+        }
+    }
+
     /// The code of the formula at `home` with a change of its references, at the cell `to`.
     fn intern_changed(
         &mut self,
@@ -334,7 +355,12 @@ impl CodeTable {
             (replaced (changed change home) (tree_at self.old id home))) }
         ensures err { OnErr result (IsSame self.old self.new) }
     {
-        let tree = build(self.alloc, self.tokens_at(id, home), change, home)?;
+        let tokens = self.tokens_at(id, home);
+        if self.stays(id, home, change, to) {
+            self.recent[usize::from(to.col) % RECENT] = id.number();
+            return Ok(self.use_again(id.number()));
+        }
+        let tree = build(self.alloc, tokens, change, home)?;
         self.intern(&tree, to)
     }
 }
