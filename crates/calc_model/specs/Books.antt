@@ -32,6 +32,9 @@ pub record Book : Type 0 where
   pub cells : List (Place × Content)
   pub names : NameEntries
 
+abbrev pub book_names : Book → NameEntries
+book_names book = book.names
+
 -- what the cell holds
 unfoldable pub content_at : Book → Place → Content
 content_at book place = unwrap_or (find place_cmp place book.cells) Empty

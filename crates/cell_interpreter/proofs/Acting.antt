@@ -1,5 +1,5 @@
 -- What a node makes of a stack of operands.
-use Rattle.std.proofs.Common.{◌≡◌, ℕ, ◌+◌, ◌-◌, ◌<◌, ◌≤◌, take, List, [], ◌∷◌, ◌++◌, length, drop, reverse, ap, sym, subst, refl, cond, nat_le, true, false, ◌∙◌, arith, Some, None}
+use Rattle.std.proofs.Common.{◌≡◌, ℕ, ◌-◌, ◌<◌, ◌≤◌, take, List, [], ◌∷◌, ◌++◌, length, drop, reverse, ap, sym, subst, refl, cond, nat_le, true, false, ◌∙◌, arith, Some, None}
 use Rattle.std.specs.Prelude.{IsSome}
 use Rattle.std.proofs.lemmas.Bool.{le-leb, leb-true}
 use Rattle.calc_addr.specs.Places.{Place}

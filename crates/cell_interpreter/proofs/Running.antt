@@ -1,5 +1,5 @@
 -- Running the nodes of a formula leaves its meaning on the stack.
-use Rattle.std.proofs.Common.{◌≡◌, ℕ, ℤ, ◌+◌, ◌<◌, ◌≤◌, List, [], ◌∷◌, ◌++◌, length, take, drop, reverse, map, nat_le, true, cond, ap, sym, subst, refl, ◌∙◌, arith, append_assoc, Some, None}
+use Rattle.std.proofs.Common.{◌≡◌, ℕ, ◌+◌, ◌<◌, ◌≤◌, List, [], ◌∷◌, ◌++◌, length, take, drop, reverse, map, nat_le, true, cond, ap, sym, subst, refl, ◌∙◌, arith, append_assoc, Some, None}
 use Rattle.std.specs.List.{AllByRecursion, flat_map}
 use Rattle.std.specs.Prelude.{IsSome}
 use Rattle.std.specs.Option.{option_and_then}
@@ -7,10 +7,7 @@ use Rattle.std.proofs.lemmas.Bool.{le-leb}
 use Rattle.std.proofs.lemmas.List.{append-nil, length-append, reverse-append, length-map, length-reverse, reverse-reverse}
 use Rattle.std.proofs.Math.Seq.{take-append_seam, drop-append_seam}
 use Rattle.calc_addr.specs.Places.{Place}
-use Rattle.calc_addr.specs.References.{Reference, here}
-use Rattle.calc_model.specs.declared.tree.Op.{Op}
 use Rattle.calc_model.specs.declared.tree.Tree.{Tree}
-use Rattle.calc_model.specs.declared.tree.Tree.TheVariants as t
 use Rattle.calc_model.specs.Meanings.{Meaning, scalar_alone}
 use Rattle.calc_model.specs.Eval.{called, meaning, meaning_step}
 use Rattle.calc_model.specs.Reads.{Names}

@@ -3,7 +3,6 @@ use Rattle.std.proofs.Common.{◌≡◌, ℕ, suc, ◌+◌, ◌-◌, ◌≤◌, 
 use Rattle.std.proofs.lemmas.List.Sums.{fold_push, fold-append}
 use Rattle.std.proofs.lemmas.List.{drop-drop, length-drop, take-append-drop}
 use Rattle.calc_addr.specs.Places.{Place}
-use Rattle.calc_model.specs.Meanings.{Meaning}
 use Rattle.calc_model.specs.Scalars.{CellValues}
 use Rattle.cell_interpreter.specs.declared.operand.Operand.{Operand}
 use Rattle.cell_interpreter.specs.declared.scalar.Scalar.{Scalar}

@@ -1,6 +1,6 @@
 -- The stack machine that runs a formula's nodes in postfix order. The stack holds what the parts mean that are
 -- done, its top first; a node takes its children's meanings from it.
-use Rattle.std.specs.Prelude.{◌≡◌, ℕ, ◌+◌, List, [], ◌∷◌, length, drop, fold, reverse, take, nat_le, Option, Some, None, IsSome, if◌then◌else◌}
+use Rattle.std.specs.Prelude.{◌≡◌, ◌+◌, List, [], ◌∷◌, length, drop, fold, reverse, take, nat_le, Option, Some, None, IsSome, if◌then◌else◌}
 use Rattle.std.specs.Option.{option_and_then}
 use Rattle.calc_addr.specs.Places.{Place}
 use Rattle.calc_addr.specs.References.{here}

@@ -5,7 +5,7 @@ use Rattle.std.specs.declared.cmp.Ordering.{Ordering}
 use Rattle.calc_num.specs.Decimals.{checked, div, mul, pow}
 use Rattle.calc_num.specs.declared.num.NumFault.{NumFault}
 use Rattle.calc_model.specs.declared.tree.Op.{Op}
-use Rattle.calc_model.specs.declared.tree.Op.TheVariants.{Pow, Mul, Div, Add, Sub, Cat, Eq, Ne, Lt, Le, Gt, Ge}
+use Rattle.calc_model.specs.declared.tree.Op.TheVariants.{Pow, Mul, Div, Add, Sub, Eq, Ne, Lt, Le, Gt, Ge}
 use Rattle.calc_model.specs.declared.value.Value.{Value}
 use Rattle.calc_model.specs.declared.value.Value.TheVariants as value
 use Rattle.calc_model.specs.declared.fault.Fault.{Fault}

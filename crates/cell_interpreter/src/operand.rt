@@ -32,6 +32,7 @@ impl<'a> Operand<'a> {
     }
 
     /// The operand in a place that takes one value.
+    #[inline(always)]
     pub(crate) fn into_scalar<V: Values>(self, home: Cell, values: &'a V) -> Scalar<'a>
         ensures { value_of result
             ≡ (meaning_of home (V.values values.entry.now) self.entry).scalar }

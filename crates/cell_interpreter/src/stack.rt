@@ -53,6 +53,7 @@ impl<'a, const SIZE: usize> Stack<'a, SIZE> {
     }
 
     /// What a node makes of the stack.
+    #[inline(always)]
     fn act<V: Values, N: NameTable>(
         &mut self,
         alloc: Global,
@@ -99,6 +100,7 @@ impl<'a, const SIZE: usize> Stack<'a, SIZE> {
         Ok(())
     }
 
+    #[inline(always)]
     fn push(&mut self, scalar: Scalar<'a>)
         requires { array_vec_len self.old.operands < SIZE }
         ensures items { self.new.operands.items
@@ -109,6 +111,7 @@ impl<'a, const SIZE: usize> Stack<'a, SIZE> {
     }
 
     /// Takes the top, in a place that takes one value.
+    #[inline(always)]
     fn pop<V: Values>(&mut self, home: Cell, values: &'a V) -> Scalar<'a>
         requires { 0 < array_vec_len self.old.operands }
         ensures { Pops home (V.values values.entry.now)

@@ -6,7 +6,7 @@ ghost use Rattle.calc_model.specs.Step.{is_edit, without_area};
 
 use crate::runs::remove_area;
 use calc_addr::{Area, Cell, NoMemory};
-use calc_model::{Content, Edit, MOST_CELLS};
+use calc_model::{Content, Edit, Looked, MOST_CELLS, NameTable};
 use std::alloc::Global;
 use std::collections::BTreeMap;
 use std::collections::btree_map::Iter;
@@ -166,5 +166,17 @@ fn is_held(content: &Content) -> bool
             true
         }
         Content::Raw(_) => true,
+    }
+}
+
+impl NameTable for CellMap {
+    ghost use Rattle.calc_model.specs.Books.{book_names};
+
+    ghost entries = { book_names };
+
+    #[tactic(auto, unfolding(calc_model::specs::Books::entry_named))]
+    fn lookup(&self, _name: &[u8]) -> Looked {
+        let _ = &self.cells;
+        Looked::Absent
     }
 }

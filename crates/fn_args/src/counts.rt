@@ -2,6 +2,7 @@
 ghost use Rattle.std.specs.Prelude.{◌≡◌, ◌≤◌, ◌*◌, length};
 ghost use Rattle.std.specs.List.{count_by};
 ghost use Rattle.calc_model.specs.Meanings.{values_in};
+ghost use Rattle.calc_model.specs.declared.limits.TheConstants.{MOST_PARAMETERS};
 ghost use Rattle.calc_model.specs.UsedCells.{values_of};
 ghost use Rattle.calc_model.specs.declared.value.Value.TheVariants as value;
 ghost use Rattle.fn_args.specs.Counts.{values_of_arg, values_of_args};
@@ -27,7 +28,7 @@ pub trait Test {
 
 /// How many values of a list pass, blank ones too.
 pub fn count_list<V: Values, T: Test>(args: &[Arg], values: &V, test: &T) -> u64
-    requires few { length args.now ≤ 30 }
+    requires few { length args.now ≤ MOST_PARAMETERS }
     ensures count { result
         ≡ count_by (T.test test.now) (values_of_args (V.values values.now) args.now) }
     ensures few { result ≤ length args.now * MOST_IN_AREA }

@@ -33,8 +33,8 @@ pub trait Tally {
 /// over, a text that is no cell's is no number.
 pub fn tally_list<V: Values, T: Tally>(args: &[Arg], values: &V, taker: &mut T) -> Result<(), Fault>
     requires { T.room taker.old (length args.now * MOST_IN_AREA) }
-    ensures { IsTallied T.step T.room (length args.now * MOST_IN_AREA) taker.old (numbers_of_args (V.values values.now) args.now)
-        taker.new result }
+    ensures { IsTallied T.step T.room (length args.now * MOST_IN_AREA) taker.old
+        (numbers_of_args (V.values values.now) args.now) taker.new result }
 {
     for arg in args {
         tally_arg(arg, values, taker)?;
@@ -45,8 +45,8 @@ pub fn tally_list<V: Values, T: Tally>(args: &[Arg], values: &V, taker: &mut T) 
 /// Gives a tally the numbers of a parameter.
 fn tally_arg<V: Values, T: Tally>(arg: &Arg, values: &V, taker: &mut T) -> Result<(), Fault>
     requires { T.room taker.old MOST_IN_AREA }
-    ensures { IsTallied T.step T.room MOST_IN_AREA taker.old (numbers_of_arg (V.values values.now) arg.now)
-        taker.new result }
+    ensures { IsTallied T.step T.room MOST_IN_AREA taker.old
+        (numbers_of_arg (V.values values.now) arg.now) taker.new result }
 {
     match arg {
         Arg::Scalar(value) => tally_scalar(value, taker),
@@ -95,7 +95,8 @@ fn tally_area<V: Values, T: Tally>(area: Area, values: &V, taker: &mut T) -> Res
 /// Gives a tally the numbers of a piece.
 fn tally_piece<T: Tally>(piece: &Piece<'_>, taker: &mut T) -> Result<(), Fault>
     requires { T.room taker.old (length (values_of piece.now)) }
-    ensures { IsTallied T.step T.room (length (values_of piece.now)) taker.old (numbers_in_cells (values_of piece.now)) taker.new result }
+    ensures { IsTallied T.step T.room (length (values_of piece.now)) taker.old
+        (numbers_in_cells (values_of piece.now)) taker.new result }
 {
     match piece {
         Piece::Small { items } => {
@@ -128,7 +129,8 @@ pub fn small(raw: i64) -> Num
 /// Gives a tally the number of a cell.
 fn tally_cell<T: Tally>(seen: &Seen<'_>, taker: &mut T) -> Result<(), Fault>
     requires { T.room taker.old 1 }
-    ensures { IsTallied T.step T.room 1 taker.old (number_in_cell (lent seen.now)) taker.new result }
+    ensures { IsTallied T.step T.room 1 taker.old (number_in_cell (lent seen.now))
+        taker.new result }
 {
     match seen {
         Seen::Number(number) => {

@@ -16,7 +16,8 @@ pub fn fn_iserror<V: Values>(
     home: Cell,
     values: &V,
 ) -> Result<Value, NoMemory>
-    ensures { IfOk result (λ v. v ≡ of_kind is_error (meanings_of home (V.values values.now) args.now)) }
+    ensures { IfOk result (λ v. v
+        ≡ of_kind is_error (meanings_of home (V.values values.now) args.now)) }
 {
     match args {
         [x] => Ok(truth(is_error(&scalar(x, home, values)))),
@@ -31,7 +32,8 @@ pub fn fn_isna<V: Values>(
     home: Cell,
     values: &V,
 ) -> Result<Value, NoMemory>
-    ensures { IfOk result (λ v. v ≡ of_kind is_not_available (meanings_of home (V.values values.now) args.now)) }
+    ensures { IfOk result (λ v. v
+        ≡ of_kind is_not_available (meanings_of home (V.values values.now) args.now)) }
 {
     match args {
         [x] => Ok(truth(is_not_available(&scalar(x, home, values)))),
@@ -46,7 +48,8 @@ pub fn fn_isnumber<V: Values>(
     home: Cell,
     values: &V,
 ) -> Result<Value, NoMemory>
-    ensures { IfOk result (λ v. v ≡ of_kind is_number (meanings_of home (V.values values.now) args.now)) }
+    ensures { IfOk result (λ v. v
+        ≡ of_kind is_number (meanings_of home (V.values values.now) args.now)) }
 {
     match args {
         [x] => Ok(truth(is_number(&scalar(x, home, values)))),
@@ -61,7 +64,8 @@ pub fn fn_istext<V: Values>(
     home: Cell,
     values: &V,
 ) -> Result<Value, NoMemory>
-    ensures { IfOk result (λ v. v ≡ of_kind is_text (meanings_of home (V.values values.now) args.now)) }
+    ensures { IfOk result (λ v. v
+        ≡ of_kind is_text (meanings_of home (V.values values.now) args.now)) }
 {
     match args {
         [x] => Ok(truth(is_text(&scalar(x, home, values)))),
@@ -76,7 +80,8 @@ pub fn fn_isblank<V: Values>(
     home: Cell,
     values: &V,
 ) -> Result<Value, NoMemory>
-    ensures { IfOk result (λ v. v ≡ of_kind is_blank (meanings_of home (V.values values.now) args.now)) }
+    ensures { IfOk result (λ v. v
+        ≡ of_kind is_blank (meanings_of home (V.values values.now) args.now)) }
 {
     match args {
         [x] => Ok(truth(is_blank(&scalar(x, home, values)))),

@@ -1,6 +1,7 @@
 //! Counts (OpenFormula, 6.13.6 to 6.13.10).
 ghost use Rattle.std.specs.Prelude.{◌≡◌, ◌≤◌, IfOk, length, not};
 ghost use Rattle.calc_model.specs.Arguments.{meanings_of};
+ghost use Rattle.calc_model.specs.declared.limits.TheConstants.{MOST_PARAMETERS};
 ghost use Rattle.calc_model.specs.Logic.{is_blank, is_number};
 ghost use Rattle.calc_model.specs.Statistics.{count, count_a, count_blank, is_without_text};
 
@@ -64,7 +65,7 @@ pub fn fn_count<V: Values>(
     home: Cell,
     values: &V,
 ) -> Result<Value, NoMemory>
-    requires few { length args.now ≤ 30 }
+    requires few { length args.now ≤ MOST_PARAMETERS }
     ensures { IfOk result (λ v. v ≡ count (meanings_of home (V.values values.now) args.now)) }
 {
     Ok(counted(count_list(args, values, &IsNumber)))
@@ -77,7 +78,7 @@ pub fn fn_counta<V: Values>(
     home: Cell,
     values: &V,
 ) -> Result<Value, NoMemory>
-    requires few { length args.now ≤ 30 }
+    requires few { length args.now ≤ MOST_PARAMETERS }
     ensures { IfOk result (λ v. v ≡ count_a (meanings_of home (V.values values.now) args.now)) }
 {
     Ok(counted(count_list(args, values, &IsUsed)))

@@ -2,6 +2,7 @@
 ghost use Rattle.std.specs.Prelude.{◌≡◌, ◌≤◌, ◌<◌, ◌-◌, ◌*◌, ◌^◌, IfOk, length, pos};
 ghost use Rattle.calc_num.specs.Decimals.{checked, rounded};
 ghost use Rattle.calc_model.specs.Arguments.{meanings_of};
+ghost use Rattle.calc_model.specs.declared.limits.TheConstants.{MOST_PARAMETERS};
 ghost use Rattle.calc_model.specs.Operators.{value_of};
 ghost use Rattle.calc_model.specs.Statistics.{average, sum};
 ghost use Rattle.fn_stat.specs.States.{HasRoom, MOST_TERMS, mean, with_term};
@@ -92,7 +93,7 @@ pub fn fn_sum<V: Values>(
     home: Cell,
     values: &V,
 ) -> Result<Value, NoMemory>
-    requires few { length args.now ≤ 30 }
+    requires few { length args.now ≤ MOST_PARAMETERS }
     ensures { IfOk result (λ v. v ≡ sum (meanings_of home (V.values values.now) args.now)) }
 {
     let mut sum = Sum::new();
@@ -109,7 +110,7 @@ pub fn fn_average<V: Values>(
     home: Cell,
     values: &V,
 ) -> Result<Value, NoMemory>
-    requires few { length args.now ≤ 30 }
+    requires few { length args.now ≤ MOST_PARAMETERS }
     ensures { IfOk result (λ v. v ≡ average (meanings_of home (V.values values.now) args.now)) }
 {
     let mut sum = Sum::new();

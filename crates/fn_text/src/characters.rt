@@ -66,7 +66,8 @@ fn back(alloc: Global, text: &str, count: usize) -> Result<Value, NoMemory>
 }
 
 fn front_if(alloc: Global, text: &str, count: i64) -> Result<Value, NoMemory>
-    ensures { IfOk result (λ v. v ≡ if_not_negative count (λ k. spelled (take k (chars text.now)))) }
+    ensures { IfOk result (λ v. v
+        ≡ if_not_negative count (λ k. spelled (take k (chars text.now)))) }
 {
     if count < 0 {
         return Ok(Value::Bad(Fault::BadValue));

@@ -1,6 +1,7 @@
 -- Trees with other trees in place of references: at each kind of node, one after another, and with none changed.
-use Rattle.std.proofs.Common.{◌≡◌, ℕ, ℤ, List, [], ◌∷◌, map, ap, sym, ◌∙◌, refl}
+use Rattle.std.proofs.Common.{◌≡◌, ℕ, ℤ, List, [], ◌∷◌, map, ap, ◌∙◌, refl}
 use Rattle.std.specs.List.{AllByRecursion}
+use Rattle.std.proofs.lemmas.Simd.{map-map}
 use Rattle.calc_addr.specs.References.{Reference}
 use Rattle.calc_model.specs.declared.fault.Fault.{Fault}
 use Rattle.calc_model.specs.declared.tree.Op.{Op}
@@ -8,7 +9,7 @@ use Rattle.calc_model.specs.declared.tree.Tree.{Tree}
 use Rattle.calc_model.specs.declared.tree.Tree.TheVariants as t
 use Rattle.calc_model.specs.TreeShifts.{replace_step, replaced}
 use Rattle.calc_model.proofs.TreeFolds.{at-Number, at-Words, at-Bad, at-Ref, at-Name, at-Call, at-Paren, at-Plus, at-Minus, at-Percent, at-Binary}
-use Rattle.calc_model.proofs.TreeInduction.{Cases, tree_ind}
+use Rattle.calc_model.proofs.TreeInduction.{tree_ind}
 
 module _ (by : Reference → Tree) where
   pub replaced-Number : (n : ℤ) → replaced by (t.Number n) ≡ t.Number n
@@ -79,3 +80,25 @@ replaced_same by stays = tree_ind (λ x. replaced by x ≡ x) (record {
   percent = λ x is. replaced-Percent by x ∙ ap t.Percent is;
   binary = λ op x y left right. replaced-Binary by op x y ∙ ap (λ z. t.Binary op z (replaced by y)) left ∙ ap (t.Binary op x) right;
 })
+
+-- a tree whose references are replaced, and then those of what took their places
+pub replaced_after : (first by both : Reference → Tree) → ((r : Reference) → replaced by (first r) ≡ both r) → (x : Tree) → replaced by (replaced first x) ≡ replaced both x
+replaced_after first by both is = tree_ind (λ x. replaced by (replaced first x) ≡ replaced both x) (record {
+  number = λ n. rw (replaced-Number first n, replaced-Number by n, replaced-Number both n);
+  words = λ text. rw (replaced-Words first text, replaced-Words by text, replaced-Words both text);
+  bad = λ fault. rw (replaced-Bad first fault, replaced-Bad by fault, replaced-Bad both fault);
+  reference = λ r. rw (replaced-Ref first r, replaced-Ref both r) (is r);
+  name = λ name. rw (replaced-Name first name, replaced-Name by name, replaced-Name both name);
+  call = λ name args known.
+      rw (replaced-Call first name args, replaced-Call by name (map (replaced first) args), replaced-Call both name args)
+      (ap (t.Call name) (map-map (replaced by) (replaced first) args ∙ map_known (λ x. replaced by (replaced first x)) (replaced both) args known));
+  paren = λ x same. rw (replaced-Paren first x, replaced-Paren by (replaced first x), replaced-Paren both x, same);
+  plus = λ x same. rw (replaced-Plus first x, replaced-Plus by (replaced first x), replaced-Plus both x, same);
+  minus = λ x same. rw (replaced-Minus first x, replaced-Minus by (replaced first x), replaced-Minus both x, same);
+  percent = λ x same. rw (replaced-Percent first x, replaced-Percent by (replaced first x), replaced-Percent both x, same);
+  binary = λ op x y left right. rw (replaced-Binary first op x y, replaced-Binary by op (replaced first x) (replaced first y), replaced-Binary both op x y, left, right);
+})
+
+-- a tree whose references are replaced twice
+pub replaced_twice : (g : Reference → Reference) (by : Reference → Tree) (x : Tree) → replaced by (replaced (λ r. t.Ref (g r)) x) ≡ replaced (λ r. by (g r)) x
+replaced_twice g by = replaced_after (λ r. t.Ref (g r)) by (λ r. by (g r)) (λ r. replaced-Ref by (g r))

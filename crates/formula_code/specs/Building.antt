@@ -1,6 +1,5 @@
 -- The nodes of a tree's relative form, and the trees that nodes in postfix order build.
-use Rattle.std.specs.Prelude.{ℕ, nat_le, List, [], ◌∷◌, ◌++◌, length, take, drop, reverse, Option, Some, None, option_and_then, if◌then◌else◌}
-use Rattle.std.specs.List.{flat_map}
+use Rattle.std.specs.Prelude.{◌≡◌, nat_le, List, [], ◌∷◌, length, take, drop, reverse, Option, Some, None, option_and_then, if◌then◌else◌}
 use Rattle.calc_addr.specs.Places.{Place}
 use Rattle.calc_addr.specs.References.{Reference}
 use Rattle.calc_model.specs.declared.fault.Fault.TheVariants.{Syntax}
@@ -16,16 +15,7 @@ use Rattle.formula_code.specs.Relative.{relative_reference}
 -- the nodes of a node's relative form, from those of its children
 abbrev pub relative_step : Place → Tree-F (List Node) → List Node
 relative_step home (Tree-F.Ref reference) = Ref (relative_reference home reference) ∷ []
-relative_step home (Tree-F.Number n) = postfix_step (Tree-F.Number n)
-relative_step home (Tree-F.Words text) = postfix_step (Tree-F.Words text)
-relative_step home (Tree-F.Bad fault) = postfix_step (Tree-F.Bad fault)
-relative_step home (Tree-F.Name name) = postfix_step (Tree-F.Name name)
-relative_step home (Tree-F.Call name args) = postfix_step (Tree-F.Call name args)
-relative_step home (Tree-F.Paren child) = postfix_step (Tree-F.Paren child)
-relative_step home (Tree-F.Plus child) = postfix_step (Tree-F.Plus child)
-relative_step home (Tree-F.Minus child) = postfix_step (Tree-F.Minus child)
-relative_step home (Tree-F.Percent child) = postfix_step (Tree-F.Percent child)
-relative_step home (Tree-F.Binary op left right) = postfix_step (Tree-F.Binary op left right)
+relative_step home node = postfix_step node
 
 abbrev pub relative_nodes : Place → Tree → List Node
 relative_nodes home = fold-Tree (List Node) (relative_step home)
@@ -50,6 +40,10 @@ module _ (by : Reference → Tree) where
   unfoldable pub built : List Node → List Tree → Option (List Tree)
   built [] trees = Some trees
   built (node ∷ nodes) trees = option_and_then (built nodes) (built_on node trees)
+
+-- the nodes build one tree
+abbrev pub Builds : (Reference → Tree) → List Node → Tree → Type 0
+Builds by nodes tree = built by nodes [] ≡ Some (tree ∷ [])
 
 -- the top of a stack
 abbrev pub top_of : Option (List Tree) → Tree

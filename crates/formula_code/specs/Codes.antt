@@ -1,6 +1,6 @@
 -- A table of codes: for each number the code that has it, if one is live. A code is a relative form and the
 -- number of its uses.
-use Rattle.std.specs.Prelude.{◌≡◌, ◌≢◌, ◌<◌, ℕ, ◌+◌, ◌-◌, ◌==◌, Bool, true, List, count_by, Option, Some, None, is_some, IsSome, slice_index_or, if◌then◌else◌, refl}
+use Rattle.std.specs.Prelude.{◌≡◌, ◌≢◌, ◌<◌, ◌+◌, ◌^◌, ℕ, ◌==◌, Bool, true, List, count_by, Option, Some, None, is_some, IsSome, sum_by, option_map, slice_index_or, if◌then◌else◌, refl}
 use Rattle.std.specs.Option.{option_map_or}
 use Rattle.std.specs.List.{list_all}
 use Rattle.std.specs.Coded.{Coded, code_by, coded×, coded_ℕ}
@@ -10,7 +10,7 @@ use Rattle.calc_model.specs.declared.tree.Tree.{Tree}
 use Rattle.calc_model.specs.declared.tree.Tree.TheVariants.{Bad}
 use Rattle.calc_model.specs.declared.fault.Fault.TheVariants.{Syntax}
 use Rattle.formula_code.specs.Nodes.{postfix}
-use Rattle.formula_code.specs.Relative.{absolute}
+use Rattle.formula_code.specs.Relative.{absolute, relative}
 use Rattle.formula_code.specs.Tokens.{is_valid_node}
 
 pub record Code : Type 0 where
@@ -38,8 +38,15 @@ live_count codes = count_by is_some codes
 abbrev pub form_at : Codes → ℕ → Tree
 form_at codes id = option_map_or (λ (code : Code). code.form) (code_at codes id) (Bad Syntax)
 
+abbrev pub slot_uses : Option Code → ℕ
+slot_uses slot = option_map_or (λ (code : Code). code.uses) slot 0
+
 abbrev pub uses_at : Codes → ℕ → ℕ
-uses_at codes id = option_map_or (λ (code : Code). code.uses) (code_at codes id) 0
+uses_at codes id = slot_uses (code_at codes id)
+
+-- the uses of all codes
+abbrev pub total_uses : Codes → ℕ
+total_uses codes = sum_by slot_uses codes
 
 -- the tree of a code for a formula at home
 abbrev pub tree_at : Codes → ℕ → Place → Tree
@@ -59,6 +66,44 @@ pub record Changes (old new : Codes) (id : ℕ) (code : Option Code) : Type 0 wh
   pub changed : code_at new id ≡ code
   pub others : (other : ℕ) → other ≢ id → code_at new other ≡ code_at old other
 
+-- the code, if there is one, with so many uses
+abbrev pub with_new_uses : ℕ → Option Code → Option Code
+with_new_uses uses = option_map (λ (code : Code). record code { uses = uses })
+
+-- Each number has what it had.
+abbrev pub IsSame : Codes → Codes → Type 0
+IsSame old new = (id : ℕ) → code_at new id ≡ code_at old id
+
 -- a form with so many uses, and no code where there is none
 abbrev pub with_uses : Tree → ℕ → Option Code
 with_uses form uses = if uses == 0 then None else Some (record { form = form; uses = uses })
+
+-- the number's code is live, with that form
+pub record HasForm (codes : Codes) (id : ℕ) (form : Tree) : Type 0 where
+  pub live : IsLive codes id
+  pub same : form_at codes id ≡ form
+
+-- Two live codes are one exactly where their forms are.
+abbrev pub AreApart : Codes → Type 0
+AreApart codes = (id other : ℕ) → IsLive codes id → IsLive codes other → form_at codes id ≡ form_at codes other → id ≡ other
+
+-- Each live code has a use.
+abbrev pub AreUsed : Codes → Type 0
+AreUsed codes = (id : ℕ) → IsLive codes id → 0 < uses_at codes id
+
+-- another use of a code, or the first one of a form
+abbrev pub used_again : Codes → ℕ → Tree → Option Code
+used_again codes id form = Some (record { form = form; uses = uses_at codes id + 1 })
+
+-- There is room for one code more, and for one use more of each.
+pub record HasRoom (codes : Codes) : Type 0 where
+  pub codes_left : live_count codes < 2 ^ 24
+  pub uses_left : (id : ℕ) → uses_at codes id + 1 < 2 ^ 32
+
+-- The number has the form of the tree at home, and one use more. It had that form before, or none. At home it has
+-- the tree.
+pub record IsInterned (old new : Codes) (home : Place) (tree : Tree) (id : ℕ) : Type 0 where
+  pub changes : Changes old new id (used_again old id (relative home tree))
+  pub kept : IsLive old id → form_at old id ≡ relative home tree
+  pub tree_back : tree_at new id home ≡ tree
+  pub at_home : IsCodeAt new id home

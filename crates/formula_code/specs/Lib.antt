@@ -4,3 +4,15 @@ pub mod Tokens
 pub mod Lent
 pub mod Codes
 pub mod Building
+pub mod Digests
+pub mod Stripping
+pub mod Wanted
+pub mod Kept
+pub mod Listed
+pub mod Slots
+pub mod Table
+pub mod Changes
+pub mod Homes
+pub mod Names
+pub mod Ears
+pub mod Staying

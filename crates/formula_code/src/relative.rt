@@ -1,13 +1,15 @@
-ghost use Rattle.std.specs.Prelude.{◌≡◌, ◌≤◌, ◌&&◌, not};
+ghost use Rattle.std.specs.Prelude.{◌≡◌, ◌≤◌, ◌&&◌, ◌↔◌, IsTrue, not};
 ghost use Rattle.calc_addr.specs.References.{IsValidReference};
+ghost use Rattle.formula_code.specs.Digests.{reference_digest};
 ghost use Rattle.formula_code.specs.Relative.{absolute_reference, from_distance, has_cols, has_rows, relative_reference, to_distance};
 
+use crate::digest::mix;
 use calc_addr::{Area, Cell, LAST_COL, LAST_ROW, Marks, Ref, Span};
 use std::marker::Model;
 
 /// A reference of a formula in which each coordinate without a mark is its distance from the formula's
 /// cell. Contracts see it as the reference with these numbers.
-#[derive(Clone, Copy, Debug, PartialEq, Eq)]
+#[derive(Clone, Copy)]
 pub struct RelativeRef {
     sheet: u8,
     first_col: u16,
@@ -50,7 +52,7 @@ impl Model for RelativeRef {
 
 impl RelativeRef {
     /// The form of a reference of a formula at `home`.
-    pub fn of(r: Ref, home: Cell) -> RelativeRef
+    pub(crate) fn of(r: Ref, home: Cell) -> RelativeRef
         ensures { result ≡ relative_reference home r }
     {
         let cols = has_cols(r.span);
@@ -66,8 +68,37 @@ impl RelativeRef {
         }
     }
 
+    pub(crate) fn is_same(self, other: RelativeRef) -> bool
+        ensures { IsTrue result ↔ (self ≡ other) }
+    {
+        self.has_same_area(other) && self.span == other.span && is_same(self.marks, other.marks)
+    }
+
+    fn has_same_area(self, other: RelativeRef) -> bool
+        ensures { IsTrue result ↔ (self.area ≡ other.area) }
+    {
+        self.sheet == other.sheet
+            && self.first_col == other.first_col
+            && self.last_col == other.last_col
+            && self.first_row == other.first_row
+            && self.last_row == other.last_row
+    }
+
+    pub(crate) fn digest(self) -> u64
+        ensures { result ≡ reference_digest self }
+    {
+        let sheet = mix(4, u64::from(self.sheet));
+        let first_col = mix(sheet, u64::from(self.first_col));
+        let last_col = mix(first_col, u64::from(self.last_col));
+        mix(
+            mix(last_col, u64::from(self.first_row)),
+            u64::from(self.last_row),
+        )
+    }
+
     /// The reference of that form of a formula at `home`.
-    pub fn at(self, home: Cell) -> Ref
+    #[inline(always)]
+    pub(crate) fn at(self, home: Cell) -> Ref
         requires { IsValidReference (absolute_reference home self) }
         ensures { result ≡ absolute_reference home self }
     {
@@ -125,13 +156,23 @@ fn row_at(moves: bool, home: Cell, distance: u32) -> u32
     }
 }
 
+fn is_same(marks: Marks, other: Marks) -> bool
+    ensures { IsTrue result ↔ (marks ≡ other) }
+{
+    marks.sheet == other.sheet
+        && marks.first_col == other.first_col
+        && marks.first_row == other.first_row
+        && marks.last_col == other.last_col
+        && marks.last_row == other.last_row
+}
+
 fn has_cols(span: Span) -> bool
     ensures { result ≡ has_cols span }
 {
     !matches!(span, Span::Rows)
 }
 
-fn has_rows(span: Span) -> bool
+pub(crate) fn has_rows(span: Span) -> bool
     ensures { result ≡ has_rows span }
 {
     !matches!(span, Span::Columns)

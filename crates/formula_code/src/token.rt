@@ -1,6 +1,6 @@
-ghost use Rattle.std.specs.Prelude.{◌≡◌, true};
+ghost use Rattle.std.specs.Prelude.{◌≡◌, true, length, IsTrue, ◌↔◌, []};
 ghost use Rattle.formula_code.specs.Lent.{lent};
-ghost use Rattle.formula_code.specs.Tokens.{absolute_node, is_valid_node};
+ghost use Rattle.formula_code.specs.Tokens.{absolute_node, is_token};
 
 use crate::node::Node;
 use calc_addr::{Cell, Ref};
@@ -17,10 +17,7 @@ pub enum Token<'a> {
     Ref(Ref),
     Name(&'a Text),
     /// A call with so many parameters.
-    Call {
-        name: &'a Text,
-        args: u8,
-    },
+    Call { name: &'a Text, args: u8 },
     Paren,
     Plus,
     Minus,
@@ -30,8 +27,9 @@ pub enum Token<'a> {
 
 impl Node {
     /// The node of a formula at `home`, lent.
+    #[inline(always)]
     fn lent_at(&self, home: Cell) -> Token<'_>
-        requires { is_valid_node (absolute_node home self.now) ≡ true }
+        requires { is_token (absolute_node home self.now) ≡ true }
         ensures { lent result ≡ absolute_node home self.now }
     {
         match self {
@@ -40,7 +38,10 @@ impl Node {
             Node::Bad(fault) => Token::Bad(*fault),
             Node::Ref(reference) => Token::Ref(reference.at(home)),
             Node::Name(name) => Token::Name(name),
-            Node::Call { name, args } => Token::Call { name, args: *args },
+            Node::Call { name, args } => Token::Call {
+                name,
+                args: *args as u8,
+            },
             Node::Paren => Token::Paren,
             Node::Plus => Token::Plus,
             Node::Minus => Token::Minus,
@@ -60,24 +61,39 @@ pub struct Tokens<'a> {
 impl<'a> Model for Tokens<'a> {
     ghost use Rattle.std.specs.Prelude.{◌≡◌, List, true};
     ghost use Rattle.formula_code.specs.declared.node.Node.{Node};
-    ghost use Rattle.formula_code.specs.Tokens.{are_valid, nodes_at};
+    ghost use Rattle.formula_code.specs.Tokens.{are_tokens, nodes_at};
 
     ghost Value = { List Node };
 
     ghost view = { λ t. nodes_at t.home t.nodes.now };
 
-    ghost invariant = { λ t. are_valid (nodes_at t.home t.nodes.now) ≡ true };
+    ghost invariant = { λ t. are_tokens (nodes_at t.home t.nodes.now) ≡ true };
 }
 
 impl<'a> Tokens<'a> {
-    ghost use Rattle.formula_code.specs.Tokens.{are_valid, nodes_at};
+    ghost use Rattle.formula_code.specs.Tokens.{are_tokens, nodes_at};
 
     /// The nodes of a formula at `home`.
     pub(crate) fn of(nodes: &'a [Node], home: Cell) -> Tokens<'a>
-        requires { are_valid (nodes_at home nodes.now) ≡ true }
+        requires { are_tokens (nodes_at home nodes.now) ≡ true }
         ensures { result ≡ nodes_at home nodes.entry.now }
     {
         Tokens { nodes, home }
+    }
+}
+
+impl Tokens<'_> {
+    /// How many are left.
+    pub fn len(&self) -> usize
+        ensures { result ≡ length self.now }
+    {
+        self.nodes.len()
+    }
+
+    pub fn is_empty(&self) -> bool
+        ensures { IsTrue result ↔ (self.now ≡ []) }
+    {
+        self.nodes.is_empty()
     }
 }
 
@@ -90,6 +106,7 @@ impl<'a> Iterator for Tokens<'a> {
 
     ghost remaining = { item_count (λ nodes. nodes) };
 
+    #[inline(always)]
     fn next(&mut self) -> Option<Token<'a>> {
         let (first, rest) = self.nodes.split_first()?;
         self.nodes = rest;

@@ -6,3 +6,5 @@ pub mod Formulas
 pub mod Sweeps
 -- areas whose cells are known
 pub mod Covered
+-- codes: a table that is empty but for the one that is run
+pub mod Codes

@@ -11,7 +11,7 @@ use Rattle.calc_model.specs.declared.fault.Fault.{Fault}
 use Rattle.calc_model.specs.declared.tree.Op.{Op}
 use Rattle.calc_model.specs.declared.tree.Tree.{Tree}
 use Rattle.calc_model.specs.declared.tree.Tree.TheVariants as t
-use Rattle.calc_model.specs.Books.{Book, area_named, looked_up}
+use Rattle.calc_model.specs.Books.{Book, area_named, entry_named, looked_up}
 use Rattle.calc_model.specs.Reads.{areas, areas_step}
 use Rattle.calc_model.proofs.TreeFolds as fold
 use Rattle.plain_evaluator.specs.Plain.{no_names}

@@ -1,20 +1,18 @@
 -- Formulas with what they read, and results of formulas on the way to all of them.
-use Rattle.std.specs.Prelude.{◌≡◌, ℕ, ℤ, ◌+ℤ◌, ◌||◌, not, true, List, length, map, Result}
+use Rattle.std.specs.Prelude.{◌≡◌, ℕ, ◌||◌, not, true, List, length, map, None}
 use Rattle.std.specs.List.{All, filter, list_any}
 use Rattle.std.specs.Ordering.{eq_by_cmp}
 use Rattle.calc_addr.specs.Places.{Place, Rectangle, place_cmp}
 use Rattle.calc_model.specs.declared.value.Value.{Value}
-use Rattle.calc_num.specs.Decimals.{checked}
-use Rattle.calc_model.specs.declared.fault.Fault.{Fault}
 use Rattle.calc_model.specs.declared.looked.Looked.TheVariants.{Absent}
 use Rattle.calc_model.specs.declared.tree.Tree.{Tree}
 use Rattle.calc_model.specs.Books.{Book, area_named, is_formula}
 use Rattle.calc_model.specs.Eval.{eval}
 use Rattle.calc_model.specs.Reads.{Names, reads}
 use Rattle.calc_model.specs.Results.{Results, is_known, is_ready, shown_by}
-use Rattle.calc_model.specs.Scalars.{with_number, value_of}
 use Rattle.calc_model.specs.Stale.{is_formula_cell}
 use Rattle.calc_model.specs.Touched.{CellSet}
+use Rattle.formula_code.specs.Codes.{Codes, code_at}
 
 -- no name stands for anything
 abbrev pub no_names : Names
@@ -38,9 +36,9 @@ pub record AreReaders (book : Book) (readers : List (Place × List Rectangle)) :
 abbrev pub value_by : Book → Results → Place → Tree → Value
 value_by book results home tree = eval home (area_named book) (shown_by book results) tree
 
--- the sum of two numbers, or the first fault
-abbrev pub sum_of : Result ℤ Fault → Result ℤ Fault → Value
-sum_of left right = with_number left (λ n. with_number right (λ m. value_of (checked (n +ℤ m))))
+-- no code is live
+abbrev pub IsEmpty : Codes → Type 0
+IsEmpty codes = (id : ℕ) → code_at codes id ≡ None
 
 -- how many cells of the book are known
 unfoldable pub known_count : Book → Results → ℕ

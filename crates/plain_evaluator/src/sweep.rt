@@ -1,32 +1,42 @@
 ghost use Rattle.std.specs.Prelude.{◌≡◌, ◌<◌, true, false, IfOk, OnOk, OnErr};
-ghost use Rattle.calc_model.specs.Eval.{top};
 ghost use Rattle.calc_model.specs.Results.{IsSound, IsFinished, Sets, ShowsAll};
 ghost use Rattle.cell_map.specs.ResultMap.{results_of};
-ghost use Rattle.plain_evaluator.specs.Plain.{AreReaders, IsReader, known_count, is_settled};
+ghost use Rattle.plain_evaluator.specs.Plain.{AreReaders, IsEmpty, IsReader, known_count, is_settled};
 
-use crate::eval::eval;
+use crate::eval::evaluate_formula;
 use crate::known::are_known;
 use crate::reading::{Reader, readers};
 use calc_addr::NoMemory;
-use calc_model::{Content, Value};
-use calc_num::Num;
+use calc_model::Content;
 use cell_map::{CellMap, ResultMap};
+use formula_code::CodeTable;
 use std::alloc::Global;
+use std::marker::Brand;
+use std::sync::ledger::Blank;
 
 /// The results of the formulas of a map of cells. A formula that reaches a circle has none.
 pub fn evaluate(alloc: Global, cells: &CellMap) -> Result<ResultMap, NoMemory>
     ensures { IfOk result (λ results. ShowsAll cells.now (results_of results)) }
 {
     let readers = readers(alloc, cells)?;
+    let mut codes = CodeTable::new(alloc);
     let mut results = ResultMap::new(alloc);
-    while sweep(cells, &readers, &mut results)? {}
+    while sweep(alloc, cells, &readers, &mut codes, &mut results)? {}
     Ok(results)
 }
 
 /// Evaluates each formula that is ready and has no result, and answers whether there was one.
-fn sweep(cells: &CellMap, readers: &[Reader], results: &mut ResultMap) -> Result<bool, NoMemory>
+fn sweep(
+    alloc: Global,
+    cells: &CellMap,
+    readers: &[Reader],
+    codes: &mut CodeTable,
+    results: &mut ResultMap,
+) -> Result<bool, NoMemory>
+    requires empty { IsEmpty codes.old }
     requires sound { IsSound cells.now (results_of results.old) }
     requires readers { AreReaders cells.now readers.now }
+    ensures empty { IsEmpty codes.new }
     ensures sound { OnOk result (IsSound cells.now (results_of results.new)) }
     ensures more { IfOk result (λ more. more ≡ true →
         known_count cells.now (results_of results.old) < known_count cells.now (results_of results.new)) }
@@ -35,7 +45,7 @@ fn sweep(cells: &CellMap, readers: &[Reader], results: &mut ResultMap) -> Result
 {
     let mut more = false;
     for reader in readers {
-        if settle(cells, reader, results)? {
+        if settle(alloc, cells, reader, codes, results)? {
             more = true;
         }
     }
@@ -43,9 +53,17 @@ fn sweep(cells: &CellMap, readers: &[Reader], results: &mut ResultMap) -> Result
 }
 
 /// Evaluates a formula that is ready and has no result.
-fn settle(cells: &CellMap, reader: &Reader, results: &mut ResultMap) -> Result<bool, NoMemory>
+fn settle(
+    alloc: Global,
+    cells: &CellMap,
+    reader: &Reader,
+    codes: &mut CodeTable,
+    results: &mut ResultMap,
+) -> Result<bool, NoMemory>
+    requires empty { IsEmpty codes.old }
     requires sound { IsSound cells.now (results_of results.old) }
     requires reader { IsReader cells.now reader.now }
+    ensures empty { IsEmpty codes.new }
     ensures sound { OnOk result (IsSound cells.now (results_of results.new)) }
     ensures added { IfOk result (λ added. added ≡ true →
         known_count cells.now (results_of results.old) < known_count cells.now (results_of results.new)) }
@@ -63,16 +81,15 @@ fn settle(cells: &CellMap, reader: &Reader, results: &mut ResultMap) -> Result<b
     if !are_known(cells, results, reader.areas()) {
         return Ok(false);
     }
-    let value = top(eval(cells, results, cell, formula.tree()));
+    let value = evaluate_formula::<Brand>(
+        alloc,
+        codes,
+        cells,
+        results,
+        cell,
+        formula,
+        Blank::new(1),
+    )?;
     results.set(cell, value)?;
     Ok(true)
-}
-
-fn top(value: Value) -> Value
-    ensures { result ≡ top value }
-{
-    match value {
-        Value::Blank => Value::Number(Num::default()),
-        value => value,
-    }
 }

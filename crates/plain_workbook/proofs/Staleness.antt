@@ -9,7 +9,7 @@ use Rattle.std.specs.Ordering.{eq_by_cmp}
 use Rattle.std.proofs.lemmas.Bool.{false_from_ne_true, and_from, and_parts}
 use Rattle.calc_addr.specs.Places.{Place, place_cmp}
 use Rattle.calc_model.specs.declared.content.Content.{Content}
-use Rattle.calc_model.specs.Books.{Book, area_named, content_at, is_formula, looked_up}
+use Rattle.calc_model.specs.Books.{Book, area_named, content_at, entry_named, is_formula, looked_up}
 use Rattle.calc_model.specs.Reads.{content_areas, reads}
 use Rattle.calc_model.specs.Stale.{Reaches, any_cell, count_in, is_formula_cell, reaches}
 use Rattle.calc_model.specs.Touched.{CellSet}

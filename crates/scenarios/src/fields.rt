@@ -11,7 +11,7 @@ const ROWS: [Row; 7] = [
         0,
     ),
     (
-        "x,=[.A1]+[.B2],=1+1\n",
+        "x,=[.A1]+[.B2],=1+\n",
         "print A1:C1\nprint B2\n",
         "x,#VALUE!,#SYNTAX!\n\"\"\n",
         0,

@@ -122,28 +122,34 @@ const EXPRESSIONS: [Row; 6] = [
 /// A text made of parts, each so many times over.
 type Parts = [(&'static str, usize); 3];
 
-/// What stands behind a formula's front and a blank, at a limit of reading and one past it: parentheses
-/// that are open at one point, parameters of a call, tokens, bytes of a name, and bytes of the formula.
-const LIMITS: [(Parts, Parts); 5] = [
+/// What stands behind a formula's front and a blank, at a limit of reading and one past it, and what the
+/// first shows: parentheses that are open at one point, parameters of a call, tokens, bytes of a name, and
+/// bytes of the formula.
+const LIMITS: [(Parts, Parts, &'static str); 5] = [
     (
         [("(", 64), ("1", 1), (")", 64)],
         [("(", 65), ("1", 1), (")", 65)],
+        "1",
     ),
     (
         [("F(1", 1), (";1", 29), (")", 1)],
         [("F(1", 1), (";1", 30), (")", 1)],
+        "#NAME?",
     ),
     (
         [("+", 1), ("1", 1), ("+1", 511)],
         [("+", 2), ("1", 1), ("+1", 511)],
+        "512",
     ),
     (
         [("rate", 1), ("s", 251), ("", 0)],
         [("rate", 1), ("s", 252), ("", 0)],
+        "#NAME?",
     ),
     (
         [("all_months", 1), ("+price_in_each_month", 409), ("", 0)],
         [("all_months", 1), ("+price_in_each_month", 409), ("s", 1)],
+        "#NAME?",
     ),
 ];
 
@@ -158,20 +164,23 @@ fn spelled(alloc: Global, front: &str, parts: Parts) -> Result<String, AllocErro
     Ok(text)
 }
 
-/// Stops unless the cell that holds a field is written so.
+/// Stops unless the cell that holds a field is written so, and shows that.
 fn expect_written(
     rt: &impl Abort,
     alloc: Global,
     field: &str,
     written: &str,
+    shown: &str,
 ) -> Result<(), AllocError> {
     let mut script = bytes(alloc, "set A1 ")?;
     script.extend_from_slice(field.as_bytes())?;
-    script.extend_from_slice(b"\nformulas A1\n")?;
+    script.extend_from_slice(b"\nformulas A1\nprint A1\n")?;
     let (status, output) = outcome(alloc, Vec::new(alloc), script)?;
-    let mut line = bytes(alloc, written)?;
-    line.push(b'\n')?;
-    assert_eq!(rt; output.as_slice(), line.as_slice(), "{field}");
+    let mut lines = bytes(alloc, written)?;
+    lines.push(b'\n')?;
+    lines.extend_from_slice(shown.as_bytes())?;
+    lines.push(b'\n')?;
+    assert_eq!(rt; output.as_slice(), lines.as_slice(), "{field}");
     assert_eq!(rt; status, 0, "{field}");
     Ok(())
 }
@@ -203,11 +212,11 @@ fn expressions_part_formulas_from_raw_fields(rt: HostRuntime) -> Result<(), Fail
 #[test]
 fn a_formula_past_a_limit_stays_raw(rt: HostRuntime) -> Result<(), Fail> {
     let alloc = rt.alloc();
-    for (within, beyond) in LIMITS {
+    for (within, beyond, shown) in LIMITS {
         let field = spelled(alloc, "= ", within)?;
-        expect_written(&rt, alloc, &field, &spelled(alloc, "=", within)?)?;
+        expect_written(&rt, alloc, &field, &spelled(alloc, "=", within)?, shown)?;
         let field = spelled(alloc, "= ", beyond)?;
-        expect_written(&rt, alloc, &field, &field)?;
+        expect_written(&rt, alloc, &field, &field, "#SYNTAX!")?;
     }
     Ok(())
 }
@@ -215,12 +224,13 @@ fn a_formula_past_a_limit_stays_raw(rt: HostRuntime) -> Result<(), Fail> {
 #[test]
 fn formulas_of_a_book_stand_as_they_are_written(rt: HostRuntime) -> Result<(), Fail> {
     let alloc = rt.alloc();
-    let (within, beyond) = LIMITS[0];
+    let (within, beyond, _) = LIMITS[0];
     let mut book = spelled(alloc, "=", within)?;
     book.push_str(&spelled(alloc, ",=", beyond)?)?;
     book.push('\n')?;
-    let script = bytes(alloc, "formulas A1:B1\n")?;
+    let script = bytes(alloc, "formulas A1:B1\nprint A1:B1\n")?;
     let (status, written) = outcome(alloc, bytes(alloc, &book)?, script)?;
+    book.push_str("1,#SYNTAX!\n")?;
     assert_eq!(rt; written.as_slice(), book.as_bytes());
     assert_eq!(rt; status, 0);
     Ok(())

@@ -14,6 +14,8 @@ mod formulas;
 #[cfg(test)]
 mod numbers;
 #[cfg(test)]
+mod operators;
+#[cfg(test)]
 mod references;
 #[cfg(test)]
 mod refusals;

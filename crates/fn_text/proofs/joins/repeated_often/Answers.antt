@@ -1,4 +1,4 @@
-use Rattle.std.proofs.Common.{◌≡◌, ◌==◌, ℕ, true, false, ap, sym, ◌∙◌, length, nat_lt, arith, rules, []}
+use Rattle.std.proofs.Common.{◌≡◌, ap, sym, ◌∙◌, length, nat_lt, arith, rules}
 use Rattle.std.proofs.lemmas.List.{nil_from_length}
 use Rattle.calc_model.specs.declared.limits.TheConstants.{MOST_FIELD_BYTES}
 use Rattle.calc_model.specs.declared.value.Value.TheVariants.{Words}

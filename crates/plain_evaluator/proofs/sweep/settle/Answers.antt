@@ -1,9 +1,7 @@
 use Rattle.std.proofs.Common.{◌≡◌, true, sym, ap, subst, ◌∙◌}
-use Rattle.calc_model.specs.Eval.{top}
 use Rattle.calc_model.specs.Results.{Sets, is_ready}
 use Rattle.calc_model.proofs.Knowing.{sound_with}
 use Rattle.cell_map.specs.ResultMap.{results_of}
-use Rattle.plain_evaluator.specs.Plain.{value_by}
 use Rattle.plain_evaluator.proofs.Formulas.{ready_by}
 use Rattle.plain_evaluator.proofs.Sweeps.{more_known, none_copied}
 use Rattle.plain_evaluator.proofs.sweep.settle.Goals as goal
@@ -16,10 +14,10 @@ returns-clause-sound c =
     let ready : is_ready book results c.cell-cell.result ≡ true =
     ap (is_ready book results) c.cell-cell.ensures ∙ ready_by book results c.args.reader.now c.requires.reader.areas c.areas.result.now c.areas.ensures c.are_known.result c.are_known.ensures ∙ c.if-not-are_known.false in
     sound_with book results c.requires.sound (results_of c.set.new.self) c.cell-cell.result c.in-Some-Formula.formula at ready
-    (subst (Sets results (results_of c.set.new.self) c.cell-cell.result) (c.top-value.ensures ∙ ap top (c.eval.ensures ∙ ap (value_by book results c.cell-cell.result) c.tree.ensures.value)) c.in_ok-set.ensures.ok)
+    (subst (Sets results (results_of c.set.new.self) c.cell-cell.result) c.in_ok-value.ensures.value c.in_ok-set.ensures.ok)
 
 pub returns-clause-added : goal.returns-clause-added
 returns-clause-added c = λ _.
     let at = rw c.in-Some-Formula.field-0-is at c.in-Some-Formula.ensures.content in
-    more_known c.args.cells.now (results_of c.args.results.now) (results_of c.set.new.self) c.cell-cell.result c.top-value.result c.in_ok-set.ensures.ok
+    more_known c.args.cells.now (results_of c.args.results.now) (results_of c.set.new.self) c.cell-cell.result c.in_ok-value.value c.in_ok-set.ensures.ok
     c.in-Some-Formula.formula at (c.get-2.ensures ∙ none_copied c.get-2.result (sym c.if-is_some.ensures))

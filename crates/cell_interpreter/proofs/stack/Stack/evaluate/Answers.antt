@@ -1,4 +1,4 @@
-use Rattle.std.proofs.Common.{rules, sym}
+use Rattle.std.proofs.Common.{rules}
 use Rattle.calc_model.specs.Books.{entry_named}
 use Rattle.formula_code.specs.Lent.{lent}
 use Rattle.cell_interpreter.proofs.Running.{begins, evaluated, goes_on, one_is_left, stays_under_way}
