@@ -1,5 +1,5 @@
 -- Which lane is the first whose exact result leaves 64 bits, from what holds of each lane by its place.
-use Rattle.std.proofs.Common.{◌≡◌, ℕ, ℤ, pos, ◌<◌, ◌+◌, List, length, get_or, not, true, false, Some, None, sym, ◌∙◌, arith, FitsSigned, w64, Result, Ok, Err, OnOk, IfErr, take, set, below_more, ◌≢◌, min, get_or-set_other, get_or-set_same}
+use Rattle.std.proofs.Common.{FitsSigned, w64, ◌≡◌, ℕ, ℤ, pos, ◌<◌, ◌+◌, List, length, get_or, not, true, false, Some, None, sym, ◌∙◌, arith, ap, Result, Ok, Err, OnOk, IfErr, take, set, below_more, ◌≢◌, min, get_or-set_other, get_or-set_same}
 use Rattle.std.proofs.lemmas.Int.{ints}
 use Rattle.std.proofs.lemmas.Bool.Decides.{nat_tests}
 use Rattle.std.proofs.lemmas.List.Sums.{position_or_len_is, fails_before_first}
@@ -11,20 +11,17 @@ use Rattle.lane_kernels.specs.Lanes.{is_i64, first_crossing, named_lane}
 use Rattle.lane_kernels.specs.declared.arithmetic.Crossed.{Crossed}
 use lib.Lanes.{zip2}
 
-fits_is : (number : ℤ) → FitsSigned w64 number → not (is_i64 number) ≡ false
-fits_is number fits = grind (arith, ints)
-
-crosses_is : (number : ℤ) → (FitsSigned w64 number → ⊥) → not (is_i64 number) ≡ true
-crosses_is number crosses = grind (arith, ints)
-
 named : (exact : List ℤ) (lane : ℕ) → position_or_len (λ number. not (is_i64 number)) exact ≡ lane → lane < length exact → first_crossing exact ≡ Some lane
 named exact lane e inside = grind (arith, nat_tests)
 
 unnamed : (exact : List ℤ) → position_or_len (λ number. not (is_i64 number)) exact ≡ length exact → first_crossing exact ≡ None
 unnamed exact e = grind (arith, nat_tests)
 
-fits_if : (number : ℤ) → not (is_i64 number) ≡ false → FitsSigned w64 number
-fits_if number e = grind (arith, ints)
+pub fits : (number : ℤ) → is_i64 number ≡ true → FitsSigned w64 number
+fits number e = grind (arith, ints)
+
+fits_if : (number : ℤ) → not (is_i64 number) ≡ false → is_i64 number ≡ true
+fits_if number e = grind (arith, nat_tests)
 
 all_before : (exact : List ℤ) → first_crossing exact ≡ None → (k : ℕ) → k < length exact → k < position_or_len (λ number. not (is_i64 number)) exact
 all_before exact none k inside = grind (arith, nat_tests)
@@ -40,42 +37,42 @@ module _ (f : ℤ → ℤ → ℤ) (a b : List ℤ) (paired : length b ≡ lengt
   pub lanes_are : length (zip2 f a b) ≡ length a
   lanes_are = length-zip2 f a b (sym paired)
 
-  pub crossing_at : (lane : ℕ) → lane < length a → ((k : ℕ) → k < lane → FitsSigned w64 (lane_of k)) → (FitsSigned w64 (lane_of lane) → ⊥) → Some lane ≡ first_crossing (zip2 f a b)
+  pub crossing_at : (lane : ℕ) → lane < length a → ((k : ℕ) → k < lane → is_i64 (lane_of k) ≡ true) → is_i64 (lane_of lane) ≡ false → Some lane ≡ first_crossing (zip2 f a b)
   crossing_at lane inside before here =
       let long = lanes_are in
       sym (named (zip2 f a b) lane
       (position_or_len_is (λ number. not (is_i64 number)) (zip2 f a b) lane (pos 0) (omega arith)
-      (λ k below. rw (lane_is k (omega arith)) (fits_is (lane_of k) (before k below)))
-      (λ _. rw (lane_is lane inside) (crosses_is (lane_of lane) here)))
+      (λ k below. rw (lane_is k (omega arith)) (ap not (before k below)))
+      (λ _. rw (lane_is lane inside) (ap not here)))
       (omega arith))
 
-  pub no_crossing : ((k : ℕ) → k < length a → FitsSigned w64 (lane_of k)) → None ≡ first_crossing (zip2 f a b)
+  pub no_crossing : ((k : ℕ) → k < length a → is_i64 (lane_of k) ≡ true) → None ≡ first_crossing (zip2 f a b)
   no_crossing all =
       let long = lanes_are in
       sym (unnamed (zip2 f a b)
       (position_or_len_is (λ number. not (is_i64 number)) (zip2 f a b) (length (zip2 f a b)) (pos 0) (omega arith)
-      (λ k below. rw (lane_is k (omega arith)) (fits_is (lane_of k) (all k (omega arith))))
+      (λ k below. rw (lane_is k (omega arith)) (ap not (all k (omega arith))))
       (λ more. absurd (omega arith))))
 
-  pub fits_before : (lane : ℕ) → first_crossing (zip2 f a b) ≡ Some lane → (lane < length a) × ((k : ℕ) → k < lane → FitsSigned w64 (lane_of k))
+  pub fits_before : (lane : ℕ) → first_crossing (zip2 f a b) ≡ Some lane → (lane < length a) × ((k : ℕ) → k < lane → is_i64 (lane_of k) ≡ true)
   fits_before lane e =
       let long = lanes_are in
       let at = position-Some (λ number. not (is_i64 number)) (zip2 f a b) lane (pos 0) e in
       (omega (arith, at.0), λ k below. fits_if (lane_of k) (rw (lane_is k (omega (arith, at.0))) at (at.2 k below)))
 
-  pub all_fit : first_crossing (zip2 f a b) ≡ None → (k : ℕ) → k < length a → FitsSigned w64 (lane_of k)
+  pub all_fit : first_crossing (zip2 f a b) ≡ None → (k : ℕ) → k < length a → is_i64 (lane_of k) ≡ true
   all_fit none k inside =
       let long = lanes_are in
       fits_if (lane_of k) (rw (lane_is k inside) at (fails_before_first (λ number. not (is_i64 number)) (zip2 f a b) k (pos 0) (all_before (zip2 f a b) none k (omega arith))))
 
   -- a loop's step: the lane at `i` is written
-  pub lane_set : (out : List ℤ) (i : ℕ) (value : ℤ) → i < length out → ((k : ℕ) → k < i → FitsSigned w64 (lane_of k) → get_or out k (pos 0) ≡ lane_of k) → (FitsSigned w64 (lane_of i) → value ≡ lane_of i) → (k : ℕ) → k < i + 1 → FitsSigned w64 (lane_of k) → get_or (set out i value) k (pos 0) ≡ lane_of k
-  lane_set out i value inside before here = below_more (λ k. FitsSigned w64 (lane_of k) → get_or (set out i value) k (pos 0) ≡ lane_of k) i
+  pub lane_set : (out : List ℤ) (i : ℕ) (value : ℤ) → i < length out → ((k : ℕ) → k < i → is_i64 (lane_of k) ≡ true → get_or out k (pos 0) ≡ lane_of k) → (is_i64 (lane_of i) ≡ true → value ≡ lane_of i) → (k : ℕ) → k < i + 1 → is_i64 (lane_of k) ≡ true → get_or (set out i value) k (pos 0) ≡ lane_of k
+  lane_set out i value inside before here = below_more (λ k. is_i64 (lane_of k) ≡ true → get_or (set out i value) k (pos 0) ≡ lane_of k) i
       (λ k below fits. let apart : k ≢ i = omega arith in rw get_or-set_other (before k below fits))
       (λ fits. rw get_or-set_same (here fits))
 
   -- What an addition or a subtraction promises of its slice, where each lane that fits is exact.
-  module _ (out : List ℤ) (room : length out ≡ length a) (exact : (k : ℕ) → k < length a → FitsSigned w64 (lane_of k) → get_or out k (pos 0) ≡ lane_of k) where
+  module _ (out : List ℤ) (room : length out ≡ length a) (exact : (k : ℕ) → k < length a → is_i64 (lane_of k) ≡ true → get_or out k (pos 0) ≡ lane_of k) where
     pub written : (result : Result Unit Crossed) → named_lane result ≡ first_crossing (zip2 f a b) → OnOk result (out ≡ zip2 f a b)
     written (Ok done) e =
         let long = lanes_are in

@@ -3,3 +3,4 @@ pub mod Lanes
 pub mod Comparisons
 pub mod Choosing
 pub mod Counting
+pub mod Signs

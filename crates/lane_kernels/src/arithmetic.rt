@@ -1,6 +1,7 @@
 ghost use Rattle.std.specs.Prelude.{◌≡◌, ◌≤◌, length, OnOk, IfErr};
 ghost use Rattle.lane_kernels.specs.declared.TheConstants.{MOST_LANES};
 ghost use Rattle.lane_kernels.specs.Lanes.{sums, differences, first_crossing, named_lane, SameBelow};
+ghost use Rattle.lane_kernels.specs.Signs.{signed, WritesSigned};
 
 /// A lane whose exact result is no number of 64 bits.
 #[derive(Clone, Copy, Debug, PartialEq, Eq)]
@@ -17,30 +18,7 @@ pub fn add(a: &[i64], b: &[i64], out: &mut [i64]) -> Result<(), Crossed>
     ensures ok { OnOk result (out.new ≡ sums a.now b.now) }
     ensures before { IfErr result (λ e. SameBelow e.lane out.new (sums a.now b.now)) }
 {
-    let mut crossed = false;
-    for i in 0..a.len() {
-        let (lane_sum, over) = a[i].overflowing_add(b[i]);
-        out[i] = lane_sum;
-        crossed |= over;
-    }
-    if crossed {
-        crossing_of_add(a, b)
-    } else {
-        Ok(())
-    }
-}
-
-/// The first lane whose sum is no number of 64 bits.
-fn crossing_of_add(a: &[i64], b: &[i64]) -> Result<(), Crossed>
-    requires paired { length b.now ≡ length a.now }
-    ensures { named_lane result ≡ first_crossing (sums a.now b.now) }
-{
-    for lane in 0..a.len() {
-        if a[lane].checked_add(b[lane]).is_none() {
-            return Err(Crossed { lane });
-        }
-    }
-    Ok(())
+    combine(a, b, Sign::Plus, out)
 }
 
 /// Subtracts lane by lane, `b` from `a`. After `Crossed` nothing is said of `out` from the named lane on.
@@ -52,26 +30,56 @@ pub fn sub(a: &[i64], b: &[i64], out: &mut [i64]) -> Result<(), Crossed>
     ensures ok { OnOk result (out.new ≡ differences a.now b.now) }
     ensures before { IfErr result (λ e. SameBelow e.lane out.new (differences a.now b.now)) }
 {
+    combine(a, b, Sign::Minus, out)
+}
+
+/// The operator between two lanes.
+#[derive(Clone, Copy)]
+enum Sign {
+    Plus,
+    Minus,
+}
+
+impl Sign {
+    /// The result of 64 bits, and whether the exact one is another.
+    fn apply(self, left: i64, right: i64) -> (i64, bool)
+        ensures { WritesSigned self left right result }
+    {
+        match self {
+            Sign::Plus => left.overflowing_add(right),
+            Sign::Minus => left.overflowing_sub(right),
+        }
+    }
+}
+
+fn combine(a: &[i64], b: &[i64], sign: Sign, out: &mut [i64]) -> Result<(), Crossed>
+    requires paired { length b.now ≡ length a.now }
+    requires room { length out.old ≡ length a.now }
+    ensures crossed { named_lane result ≡ first_crossing (signed sign a.now b.now) }
+    ensures ok { OnOk result (out.new ≡ signed sign a.now b.now) }
+    ensures before { IfErr result (λ e. SameBelow e.lane out.new (signed sign a.now b.now)) }
+{
     let mut crossed = false;
     for i in 0..a.len() {
-        let (difference, over) = a[i].overflowing_sub(b[i]);
-        out[i] = difference;
+        let (lane_result, over) = sign.apply(a[i], b[i]);
+        out[i] = lane_result;
         crossed |= over;
     }
     if crossed {
-        crossing_of_sub(a, b)
+        first_crossed(a, b, sign)
     } else {
         Ok(())
     }
 }
 
-/// The first lane whose difference is no number of 64 bits.
-fn crossing_of_sub(a: &[i64], b: &[i64]) -> Result<(), Crossed>
+/// The first lane whose exact result is no number of 64 bits.
+fn first_crossed(a: &[i64], b: &[i64], sign: Sign) -> Result<(), Crossed>
     requires paired { length b.now ≡ length a.now }
-    ensures { named_lane result ≡ first_crossing (differences a.now b.now) }
+    ensures { named_lane result ≡ first_crossing (signed sign a.now b.now) }
 {
     for lane in 0..a.len() {
-        if a[lane].checked_sub(b[lane]).is_none() {
+        let (_, over) = sign.apply(a[lane], b[lane]);
+        if over {
             return Err(Crossed { lane });
         }
     }

@@ -9,6 +9,8 @@ mod choices;
 mod folds;
 mod kernels;
 mod lanes;
+#[cfg(test)]
+mod tests;
 mod windows;
 
 pub use arithmetic::{Crossed, add, sub};

@@ -13,7 +13,7 @@ use Rattle.std.proofs.lemmas.Nat.Bits.{and_pow}
 use Rattle.std.specs.Int.Bits.{bit_and}
 use mathlib.Core.Logic.{dite}
 use native.Mathlib.Decide.{ℕ_discrete}
-use Rattle.work_board.specs.MarkRule.{bit_of}
+use Rattle.work_board.specs.Rules.{bit_of}
 
 pub same_power : (a b : ℕ) → 2 ^ a ≡ 2 ^ b → a ≡ b
 same_power a b e = dite (ℕ_discrete a b) (λ h. h) (λ n. absurd (let one = bit_at-pow_same a in let none_ = bit_at-pow_other b a n in let same : bit_at (2 ^ a) a ≡ bit_at (2 ^ b) a = ap (λ m. bit_at m a) e in omega arith))

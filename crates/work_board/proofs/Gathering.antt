@@ -6,8 +6,8 @@ use Rattle.std.proofs.lemmas.List.FromFn.{length-map-range_with_len, get_or-map-
 use Rattle.std.proofs.lemmas.Bool.Decides.{nat_tests}
 use mathlib.Core.Logic.{dite}
 use native.Mathlib.Decide.{ℕ_discrete}
-use Rattle.work_board.specs.declared.draw_rule.DrawView.{DrawView}
-use Rattle.work_board.specs.DrawViews.{IsEnd, GathersAll}
+use Rattle.work_board.specs.declared.pass_view.PassView.{PassView}
+use Rattle.work_board.specs.Views.{IsDrawEnd, GathersAll}
 use Rattle.work_board.specs.Counts.{times, once_below}
 use Rattle.work_board.specs.BoardMachine.{gather, one_thread}
 
@@ -50,6 +50,6 @@ gathers blank f units numbers once =
     comes f blank numbers (replicate units blank) i (omega (arith, length-replicate units blank)) (omega (arith, once i, is_once i units below))
     ∙ sym (get_or-map-range_with_len f 0 units i i blank below (omega arith)))
 
-pub gathers_all : (units : ℕ) (end : DrawView) → IsEnd units end → GathersAll units end
+pub gathers_all : (units : ℕ) (end : PassView) → IsDrawEnd units end → GathersAll units end
 gathers_all units end is some_none blank f =
-    gathers blank f units end.drawn (λ x. is.once x ∙ ap (once_below x) (is.whole some_none))
+    gathers blank f units end.listed (λ x. is.once x ∙ ap (once_below x) (is.whole some_none))

@@ -1,11 +1,13 @@
--- Totals: sums over all views. Distinct: how many distinct numbers there are below a bound.
--- DrawSteps: each step of a draw board keeps its rule, and what is left at the end.
--- Bits: one bit of the words of a mark board. MarkSteps: each of its steps keeps its rule, and the end.
--- Schedules: what each event of the Board machine keeps. Gathering: results at the places of distinct numbers.
+-- Totals: sums over the views of all passes. Distinct: distinct numbers below a bound are few.
+-- Sharing: what both rules say of the passes, kept by each step. DrawSteps, MarkSteps: what each rule says alone.
+-- Bits: what setting one bit does to the words. MarkEvents: a mark is an event of the Board machine.
+-- Schedules: what every event of the Board machine keeps. Gathering: results at their places.
 pub mod Totals
 pub mod Distinct
+pub mod Sharing
+pub mod Schedules
 pub mod DrawSteps
+pub mod Gathering
 pub mod Bits
 pub mod MarkSteps
-pub mod Schedules
-pub mod Gathering
+pub mod MarkEvents

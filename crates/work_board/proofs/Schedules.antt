@@ -1,7 +1,8 @@
 -- What every event of the Board machine keeps.
-use Rattle.std.proofs.Common.{◌≡◌, ℕ, zero, suc, ◌+◌, ◌<◌, ◌≤◌, ◌||◌, ltb, eqb, Bool, true, false, cond, List, [], ◌∷◌, ◌++◌, length, set, get_or, replicate, sum_by, count_by, refl, sym, ap, ◌∙◌, subst, arith, append-nil, length-set, get_or-set_same, ne_eqb}
-use Rattle.std.proofs.lemmas.List.{get_or-set_other}
-use Rattle.std.proofs.lemmas.List.Sums.{sum_by-cons, sum_by-append, sum_by_push, sum_by-set}
+use Rattle.std.proofs.Common.{⊎_elim, ◌≡◌, ℕ, zero, suc, ◌+◌, ◌<◌, ◌≤◌, ◌||◌, ltb, eqb, Bool, true, false, cond, List, [], ◌∷◌, ◌++◌, length, set, sum_by, count_by, refl, sym, ap, ◌∙◌, subst, arith, append-nil, ne_eqb}
+use Rattle.std.proofs.lemmas.List.Sums.{sum_by-cons, sum_by-append, sum_by_push, sum_by-set, get_or-le-sum_by}
+use Rattle.std.proofs.lemmas.List.Folds.{sum_by-replicate}
+use Rattle.std.proofs.Math.Nat.{eq-or-lt_of_le}
 use Rattle.std.proofs.lemmas.Bool.Decides.{nat_tests}
 use Rattle.std.specs.List.{flat_map}
 use mathlib.Core.Logic.{dite}
@@ -25,11 +26,19 @@ open_inside [] w h = cc
 open_inside (x ∷ xs) zero h = omega arith
 open_inside (x ∷ xs) (suc w) h = omega (arith, open_inside xs w h)
 
+abbrev closings : Worker → ℕ
+closings w = cond w.closed 1 0
+
 -- what all events keep
 pub record Kept (units : ℕ) (m : Machine) : Type 0 where
   pub below : m.next ≤ units
   pub once : (x : ℕ) → sum_by (λ w. times x w.drawn) m.workers ≡ once_below x m.next
-  pub whole : (w : ℕ) → w < length m.workers → (worker_at m.workers w).closed ≡ true → m.next ≡ units
+  pub unclosed : m.next < units → sum_by closings m.workers ≡ 0
+
+pub whole : (units : ℕ) (m : Machine) → Kept units m → (w : ℕ) → w < length m.workers → (worker_at m.workers w).closed ≡ true → m.next ≡ units
+whole units m k w inside closed = ⊎_elim (λ e. e)
+    (λ lower. absurd (let h = get_or-le-sum_by closings m.workers w absent inside in let one : ◌≡◌ {A = ℕ} (closings (worker_at m.workers w)) 1 = ap (λ b. cond b 1 0) closed in omega (arith, h, one, k.unclosed lower)))
+    (eq-or-lt_of_le k.below)
 
 module _ (units : ℕ) (m : Machine) (k : Kept units m) (w : ℕ) (is : (worker_at m.workers w).closed ≡ false) where
   abbrev worker : Worker
@@ -47,23 +56,16 @@ module _ (units : ℕ) (m : Machine) (k : Kept units m) (w : ℕ) (is : (worker_
             let t = sum_by-set (λ (u : Worker). times x u.drawn) m.workers w new absent inside in
             let a : times x (worker.drawn ++ m.next ∷ []) ≡ times x worker.drawn + cond (eqb m.next x) 1 0 = sum_by_push (λ y. cond (eqb y x) 1 0) worker.drawn m.next in
             omega (arith, t, a, once_more x m.next, k.once x);
-        whole = λ j within closed. absurd (dite (ℕ_discrete j w)
-            (λ same.
-            let at : get_or (set m.workers w new) j absent ≡ new = ap (λ i. get_or (set m.workers w new) i absent) same ∙ get_or-set_same m.workers w new absent inside in
-            let no_ : true ≡ false = sym closed ∙ ap (λ (u : Worker). u.closed) at ∙ is in cc)
-            (λ apart.
-            let at = get_or-set_other m.workers w j new absent apart in
-            let all = k.whole j (omega (arith, length-set m.workers w new)) (sym (ap (λ (u : Worker). u.closed) at) ∙ closed) in omega arith));
+        unclosed = λ _. let t = sum_by-set closings m.workers w new absent inside in omega (arith, t, k.unclosed lower);
       }
 
   refused : units ≤ m.next → Kept units (record { next = m.next; workers = set m.workers w (record { drawn = worker.drawn; closed = true }); markers = m.markers })
   refused upper =
       let new : Worker = record { drawn = worker.drawn; closed = true } in
-      let b = k.below in
       record {
         below = k.below;
         once = λ x. let t = sum_by-set (λ (u : Worker). times x u.drawn) m.workers w new absent inside in omega (arith, t, k.once x);
-        whole = λ j within closed. omega arith;
+        unclosed = λ lower. absurd (omega arith);
       }
 
   tried : (b : Bool) → ltb m.next units ≡ b → Kept units (record { next = cond b (m.next + 1) m.next; workers = set m.workers w (cond b (record { drawn = worker.drawn ++ m.next ∷ []; closed = worker.closed }) (record { drawn = worker.drawn; closed = true })); markers = m.markers })
@@ -78,7 +80,7 @@ module _ (units : ℕ) where
 
   kept_mark : (m : Machine) (w bit : ℕ) → Kept units m → (b : Bool) → Kept units (cond b m (record { next = m.next; workers = m.workers; markers = m.markers ++ (bit, w) ∷ [] }))
   kept_mark m w bit k true = k
-  kept_mark m w bit k false = record { below = k.below; once = k.once; whole = k.whole }
+  kept_mark m w bit k false = record { below = k.below; once = k.once; unclosed = k.unclosed }
 
   kept_event : (e : Event) (m : Machine) → Kept units m → Kept units (event units e m)
   kept_event (Draw w) m k = kept_draw m w k (worker_at m.workers w).closed refl
@@ -88,23 +90,11 @@ module _ (units : ℕ) where
   kept_after [] m k = k
   kept_after (e ∷ es) m k = kept_after es (event units e m) (kept_event e m k)
 
-no_draws : (x workers : ℕ) → sum_by (λ (w : Worker). times x w.drawn) (replicate workers fresh) ≡ 0
-no_draws x zero = refl
-no_draws x (suc n) = omega (arith, sum_by-cons (λ (w : Worker). times x w.drawn) fresh (replicate n fresh), no_draws x n)
-
-none_below : (x : ℕ) → once_below x 0 ≡ 0
-none_below x = grind (arith, nat_tests)
-
-no_closed : (workers w : ℕ) → w < length (replicate workers fresh) → (worker_at (replicate workers fresh) w).closed ≡ false
-no_closed zero w within = absurd (omega arith)
-no_closed (suc n) zero within = refl
-no_closed (suc n) (suc w) within = no_closed n w (omega arith)
-
 kept_opened : (units workers : ℕ) → Kept units (opened workers)
 kept_opened units workers = record {
   below = omega arith;
-  once = λ x. no_draws x workers ∙ sym (none_below x);
-  whole = λ w within closed. let no_ : true ≡ false = sym closed ∙ no_closed workers w within in cc;
+  once = λ x. let none : once_below x 0 ≡ 0 = grind (arith, nat_tests) in omega (arith, none, sum_by-replicate (λ (w : Worker). times x w.drawn) workers fresh);
+  unclosed = λ _. omega (arith, sum_by-replicate closings workers fresh);
 }
 
 pub kept : (units workers : ℕ) (events : List Event) → Kept units (after units events (opened workers))

@@ -1,5 +1,5 @@
 -- The Board machine: what workers do on a draw board and a mark board, one event after the other.
-use Rattle.std.specs.Prelude.{ℕ, ◌+◌, ◌==◌, ltb, Bool, true, false, List, [], ◌∷◌, ◌++◌, map, replicate, fold, flat_map, slice_set, slice_index_or, if◌then◌else◌, Option, Some, None}
+use Rattle.std.specs.Prelude.{ℕ, ◌+◌, ◌==◌, ltb, Bool, true, false, List, [], ◌∷◌, ◌++◌, map, filter, replicate, fold, flat_map, slice_set, slice_index_or, if◌then◌else◌, Option, Some, None}
 use Rattle.std.specs.List.{list_any, range_with_len}
 
 -- the numbers that a worker drew, and whether a draw has told it that none is left
@@ -58,6 +58,10 @@ mark w bit m =
     if is_marked m.markers bit
     then m
     else record { next = m.next; workers = m.workers; markers = m.markers ++ (bit, w) ∷ [] }
+
+-- the bits whose first marker a worker is
+abbrev pub marked_by : ℕ → Machine → List ℕ
+marked_by w m = map (λ marker. marker.0) (filter (λ marker. marker.1 == w) m.markers)
 
 abbrev pub event : ℕ → Event → Machine → Machine
 event units (Draw w) m = draw units w m

@@ -2,8 +2,8 @@
 use Rattle.std.specs.Prelude.{◌≡◌, ℕ, ◌<◌, ◌≤◌, ◌==◌, ◌++◌, true, length, List, count_by}
 use Rattle.work_board.specs.Counts.{times, once_below}
 use Rattle.work_board.specs.BoardMachine.{Machine, Event, opened, after, event, worker_at, all_drawn, gather, one_thread}
-use Rattle.work_board.specs.DrawViews.{IsEnd}
-use Rattle.work_board.specs.declared.draw_rule.DrawView.{DrawView}
+use Rattle.work_board.specs.Views.{IsDrawEnd}
+use Rattle.work_board.specs.declared.pass_view.PassView.{PassView}
 
 -- the machine after some events
 abbrev pub run : ℕ → ℕ → List Event → Machine
@@ -42,9 +42,9 @@ MarkersStay =
 -- the joined lists of a board's passes hold what the machine's workers drew
 abbrev pub DrawnAlike : Type 0
 DrawnAlike =
-    (units workers : ℕ) (events : List Event) (view : DrawView) (end : IsEnd units view)
+    (units workers : ℕ) (events : List Event) (view : PassView) (end : IsDrawEnd units view)
     → (run units workers events).next ≡ end.bound
-    → (x : ℕ) → times x view.drawn ≡ times x (all_drawn (run units workers events))
+    → (x : ℕ) → times x view.listed ≡ times x (all_drawn (run units workers events))
 
 -- f of numbers that are each drawn once, whoever drew them, is what one thread makes of the units
 abbrev pub GathersOnce : Type 0 → Type 0

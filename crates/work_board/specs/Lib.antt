@@ -1,9 +1,6 @@
 pub mod Counts
 pub mod BoardMachine
+pub mod Views
 pub mod Laws
-pub mod DrawViews
-pub mod DrawPasses
-pub mod DrawRule
-pub mod MarkViews
-pub mod MarkPasses
-pub mod MarkRule
+pub mod Passes
+pub mod Rules

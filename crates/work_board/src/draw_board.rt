@@ -1,12 +1,12 @@
 // The calls of a draw board.
 ghost use Rattle.std.specs.Prelude.{◌≡◌, ℕ, ◌+◌, ◌^◌, ◌<◌, ◌≤◌, length, IfOk, IfSome, IfNone, IsOkAnd};
-ghost use Rattle.work_board.specs.DrawViews.{first_view, new_view, with_number, with_none, one_right_less, both};
-ghost use Rattle.work_board.specs.DrawPasses.{view_of, IsPassOf, IsDraw};
-ghost use Rattle.work_board.specs.DrawViews.{IsEnd, GathersAll};
+ghost use Rattle.work_board.specs.Views.{first_view, new_view, with_listed, with_none, nones, one_right_less, both, IsDrawEnd, GathersAll};
+ghost use Rattle.work_board.specs.Passes.{view_of, IsPassOf, IsDraw};
 
 use crate::NoMemory;
 use crate::draw_pass::{DrawBoard, DrawPass};
-use crate::draw_rule::{DrawJoins, DrawSplits, Draws};
+use crate::pass_view::{Joins, Splits};
+use crate::rules::Draws;
 use atomic_table::Table;
 use std::alloc::Global;
 
@@ -27,12 +27,12 @@ impl DrawBoard {
     /// An answer of None closes the pass. No clause says which of several workers comes first.
     pub fn draw(&self, pass: &mut DrawPass) -> Option<u64>
         requires own { IsPassOf self.now pass.old }
-        requires open_ { (view_of pass.old).nones ≡ 0 }
+        requires open_ { nones (view_of pass.old) ≡ 0 }
         ensures own { IsPassOf self.now pass.new }
-        ensures event { IsDraw self.now.units pass.old result pass.new }
-        ensures drawn { IfSome result (λ n. view_of pass.new ≡ with_number n (view_of pass.old)) }
+        ensures event { IsDraw self.now.units (view_of pass.old) result (view_of pass.new) }
+        ensures drawn { IfSome result (λ n. view_of pass.new ≡ with_listed n (view_of pass.old)) }
         ensures below { IfSome result (λ n. n < self.now.units) }
-        ensures shorter { IfSome result (λ n. length (view_of pass.old).drawn ≤ n) }
+        ensures shorter { IfSome result (λ n. length (view_of pass.old).listed ≤ n) }
         ensures none { IfNone result (view_of pass.new ≡ with_none (view_of pass.old)) }
     {
         let next = self.table.shared.fetch_add::<Draws>(&mut pass.seat, 0, 1);
@@ -49,7 +49,7 @@ impl DrawBoard {
         ensures new_own { IsOkAnd result (λ new. IsPassOf self.now new) }
         ensures new { IsOkAnd result (λ new. view_of new ≡ new_view self.now.units) }
     {
-        let seat = self.table.shared.split_seat::<DrawSplits>(&mut pass.seat);
+        let seat = self.table.shared.split_seat::<Splits>(&mut pass.seat);
         Ok(DrawPass { seat })
     }
 
@@ -62,16 +62,14 @@ impl DrawBoard {
         ensures both { view_of into.new ≡ both (view_of into.old) (view_of other) }
     {
         let DrawPass { seat } = other;
-        self.table
-            .shared
-            .join_seat::<DrawJoins>(&mut into.seat, seat);
+        self.table.shared.join_seat::<Joins>(&mut into.seat, seat);
     }
 
     /// Ends the board, once every pass that was split off is joined.
     pub fn close(self, pass: DrawPass)
         requires own { IsPassOf self pass }
         requires joined { (view_of pass).passes + (view_of pass).rights ≡ 65 }
-        ensures drawn { IsEnd self.units (view_of pass) }
+        ensures drawn { IsDrawEnd self.units (view_of pass) }
         ensures gathered { GathersAll self.units (view_of pass) }
     {
         let DrawBoard { table, units: _ } = self;

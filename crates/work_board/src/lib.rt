@@ -7,21 +7,20 @@
 
 mod draw_board;
 mod draw_pass;
-mod draw_rule;
 mod laws;
 mod mark_board;
 mod mark_pass;
-mod mark_rule;
+mod pass_view;
+mod rules;
 #[cfg(test)]
 mod tests;
 
 pub use draw_pass::{DrawBoard, DrawPass};
-pub use draw_rule::DrawView;
 pub use laws::{
     each_bit_has_one_first_marker, each_unit_is_drawn_once, gathered_is_one_threads_answer,
 };
 pub use mark_pass::{MarkBoard, MarkPass};
-pub use mark_rule::MarkView;
+pub use pass_view::PassView;
 use std::alloc::AllocError;
 
 /// Want of memory.

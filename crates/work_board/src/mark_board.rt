@@ -1,12 +1,12 @@
 // The calls of a mark board.
 ghost use Rattle.std.specs.Prelude.{◌≡◌, ℕ, ◌+◌, ◌^◌, ◌<◌, ◌≤◌, length, true, false, IfOk, IsOkAnd};
-ghost use Rattle.work_board.specs.MarkViews.{first_view, new_view, with_listed, with_met, one_right_less, both};
-ghost use Rattle.work_board.specs.MarkViews.{IsMarkEnd};
-ghost use Rattle.work_board.specs.MarkPasses.{mark_view_of, IsMarkPassOf, IsFirstMark, IsLaterMark};
+ghost use Rattle.work_board.specs.Views.{first_view, new_view, with_listed, with_missed, one_right_less, both, IsMarkEnd};
+ghost use Rattle.work_board.specs.Passes.{mark_view, IsMarkPassOf, IsMark};
 
 use crate::NoMemory;
 use crate::mark_pass::{MarkBoard, MarkPass};
-use crate::mark_rule::{MarkJoins, MarkSplits, Marks};
+use crate::pass_view::{Joins, Splits};
+use crate::rules::Marks;
 use atomic_table::Table;
 use std::alloc::Global;
 
@@ -20,7 +20,7 @@ impl MarkBoard {
         requires { bits < 2 ^ 32 }
         ensures bits { IfOk result (λ made. made.0.bits ≡ bits) }
         ensures own { IfOk result (λ made. IsMarkPassOf made.0 made.1) }
-        ensures first { IfOk result (λ made. mark_view_of made.1 ≡ first_view bits) }
+        ensures first { IfOk result (λ made. mark_view made.1 ≡ first_view bits) }
     {
         let words = vec![in alloc; 0; (bits / WORD_BITS + 1) as usize]?;
         let (table, seat) = Table::of_words(alloc, words.as_slice(), &bits)?;
@@ -34,9 +34,10 @@ impl MarkBoard {
         requires own { IsMarkPassOf self.now pass.old }
         requires inside { bit < self.now.bits }
         ensures own { IsMarkPassOf self.now pass.new }
-        ensures first { result ≡ true → IsFirstMark bit pass.old pass.new }
-        ensures met { result ≡ false → IsLaterMark bit pass.old pass.new }
-        ensures room { length (mark_view_of pass.new).listed ≤ self.now.bits }
+        ensures event { IsMark bit (mark_view pass.old) result (mark_view pass.new) }
+        ensures first { result ≡ true → mark_view pass.new ≡ with_listed bit (mark_view pass.old) }
+        ensures met { result ≡ false → mark_view pass.new ≡ with_missed bit (mark_view pass.old) }
+        ensures room { length (mark_view pass.new).listed ≤ self.now.bits }
     {
         let mask = 1 << (bit % WORD_BITS);
         let word = (bit / WORD_BITS) as usize;
@@ -51,13 +52,13 @@ impl MarkBoard {
     /// hands on none. It takes no memory, and so is never answered `NoMemory`.
     pub fn split(&self, pass: &mut MarkPass) -> Result<MarkPass, NoMemory>
         requires own { IsMarkPassOf self.now pass.old }
-        requires right { 0 < (mark_view_of pass.old).rights }
+        requires right { 0 < (mark_view pass.old).rights }
         ensures own { IsMarkPassOf self.now pass.new }
-        ensures left { mark_view_of pass.new ≡ one_right_less (mark_view_of pass.old) }
+        ensures left { mark_view pass.new ≡ one_right_less (mark_view pass.old) }
         ensures new_own { IsOkAnd result (λ new. IsMarkPassOf self.now new) }
-        ensures new { IsOkAnd result (λ new. mark_view_of new ≡ new_view self.now.bits) }
+        ensures new { IsOkAnd result (λ new. mark_view new ≡ new_view self.now.bits) }
     {
-        let seat = self.table.shared.split_seat::<MarkSplits>(&mut pass.seat);
+        let seat = self.table.shared.split_seat::<Splits>(&mut pass.seat);
         Ok(MarkPass { seat })
     }
 
@@ -67,19 +68,17 @@ impl MarkBoard {
         requires own { IsMarkPassOf self.now into.old }
         requires other_own { IsMarkPassOf self.now other }
         ensures own { IsMarkPassOf self.now into.new }
-        ensures both { mark_view_of into.new ≡ both (mark_view_of into.old) (mark_view_of other) }
+        ensures both { mark_view into.new ≡ both (mark_view into.old) (mark_view other) }
     {
         let MarkPass { seat } = other;
-        self.table
-            .shared
-            .join_seat::<MarkJoins>(&mut into.seat, seat);
+        self.table.shared.join_seat::<Joins>(&mut into.seat, seat);
     }
 
     /// Ends the board, once every pass that was split off is joined.
     pub fn close(self, pass: MarkPass)
         requires own { IsMarkPassOf self pass }
-        requires joined { (mark_view_of pass).passes + (mark_view_of pass).rights ≡ 65 }
-        ensures { IsMarkEnd self.bits (mark_view_of pass) }
+        requires joined { (mark_view pass).passes + (mark_view pass).rights ≡ 65 }
+        ensures marked { IsMarkEnd self.bits (mark_view pass) }
     {
         let MarkBoard { table, bits: _ } = self;
         let MarkPass { seat } = pass;

@@ -1,5 +1,5 @@
-use Rattle.std.proofs.Common.{sym, ◌∙◌, arith}
-use Rattle.work_board.proofs.DrawSteps.{joins}
+use Rattle.std.proofs.Common.{get_or, arith}
+use Rattle.work_board.proofs.DrawSteps.{join_drawn}
 use Rattle.work_board.proofs.draw_pass.DrawBoard.join.Goals as goal
 
 pub join_seat-requires : goal.join_seat-requires
@@ -11,5 +11,5 @@ join_seat-requires c =
       c.requires.other_own.0,
       other.bare,
       rw board.word (omega arith),
-      joins board.table.shared.key into.seat.id into.seat.me.0 (c.requires.own.1 ∙ sym board.told) into.unspent other.seat.id other.seat.me.0,
+      λ s r at apart there. (r.0, join_drawn board.table.shared.key (get_or s.words 0 0) s.views r.1 into.seat.id into.seat.me.0 at into.unspent other.seat.id other.seat.me.0 apart there),
     )

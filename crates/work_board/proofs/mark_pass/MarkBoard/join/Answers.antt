@@ -1,5 +1,4 @@
-use Rattle.std.proofs.Common.{sym, ◌∙◌}
-use Rattle.work_board.proofs.MarkSteps.{joins}
+use Rattle.work_board.proofs.MarkSteps.{join_marked}
 use Rattle.work_board.proofs.mark_pass.MarkBoard.join.Goals as goal
 
 pub join_seat-requires : goal.join_seat-requires
@@ -11,5 +10,5 @@ join_seat-requires c =
       c.requires.other_own.0,
       other.bare,
       board.some,
-      joins board.table.shared.key into.seat.id into.seat.me.0 (c.requires.own.1 ∙ sym board.told) into.unspent other.seat.id other.seat.me.0,
+      λ s r at apart there. join_marked board.table.shared.key s.words s.views r into.seat.id into.seat.me.0 at into.unspent other.seat.id other.seat.me.0 there,
     )

@@ -1,6 +1,8 @@
-use Rattle.std.proofs.Common.{ℕ, refl, sym, ◌∙◌, arith}
+use Rattle.std.proofs.Common.{ℕ, ◌≤◌, length, refl, sym, subst, ◌∙◌, arith}
 use Rattle.work_board.proofs.Bits.{mask}
-use Rattle.work_board.proofs.MarkSteps.{marks, same_bits, same_passes, first_marker, later_marker}
+use Rattle.work_board.proofs.Distinct.{at_most}
+use Rattle.work_board.proofs.MarkEvents.{keeps, tells}
+use Rattle.work_board.proofs.MarkSteps.{marks}
 use Rattle.work_board.proofs.mark_pass.MarkBoard.mark.Goals as goal
 
 pub fetch_or-found-requires : goal.fetch_or-found-requires
@@ -10,32 +12,30 @@ fetch_or-found-requires c =
     let bit : ℕ = c.args.bit in (
       c.requires.own.0,
       omega (arith, board.room, c.requires.inside),
-      rw (mask bit) (marks board.table.shared.key pass.seat.id board.table.shared.table_id.slots pass.seat.me (c.requires.own.1 ∙ sym board.told) pass.unspent bit (rw board.told c.requires.inside)),
+      rw (mask bit) (marks board.table.shared.key pass.seat.id pass.seat.me.0 (c.requires.own.1 ∙ sym board.told) pass.unspent board.table.shared.table_id.slots pass.seat.me refl bit (rw board.told c.requires.inside)),
     )
 
 pub invariant_of-pass : goal.invariant_of-pass
 invariant_of-pass c =
     let step = c.fetch_or-found in
+    let pass = c.args.pass.now in
     let told = step.ensures.2.2 c.args.bit refl (sym (mask c.args.bit)) in
     record {
-      unspent = rw (same_passes c.args.bit step.result c.args.pass.now.seat.me.0 step.new.seat.me.0 told) c.args.pass.now.unspent;
-      bare = step.ensures.2.1 ∙ c.args.pass.now.bare;
+      unspent = rw (keeps c.args.bit step.result pass.seat.me.0 step.new.seat.me.0 told step.ensures.2.0).1 pass.unspent;
+      bare = step.ensures.2.1 ∙ pass.bare;
     }
 
-pub returns-clause-own : goal.returns-clause-own
-returns-clause-own c =
+pub returns : goal.returns
+returns c =
     let step = c.fetch_or-found in
+    let old = c.args.pass.now.seat.me.0 in
+    let new = step.new.seat.me.0 in
     let told = step.ensures.2.2 c.args.bit refl (sym (mask c.args.bit)) in
-    (step.ensures.0 ∙ c.requires.own.0, same_bits c.args.bit step.result c.args.pass.now.seat.me.0 step.new.seat.me.0 told ∙ c.requires.own.1)
-
-pub returns-clause-first : goal.returns-clause-first
-returns-clause-first c =
-    let step = c.fetch_or-found in
-    let told = step.ensures.2.2 c.args.bit refl (sym (mask c.args.bit)) in
-    first_marker c.args.bit step.result c.args.pass.now.seat.me.0 step.new.seat.me.0 told
-
-pub returns-clause-met : goal.returns-clause-met
-returns-clause-met c =
-    let step = c.fetch_or-found in
-    let told = step.ensures.2.2 c.args.bit refl (sym (mask c.args.bit)) in
-    later_marker c.args.bit step.result c.args.pass.now.seat.me.0 step.new.seat.me.0 told
+    let says = tells c.args.bit step.result old new told step.ensures.2.0 _ refl in
+    record {
+      own = (step.ensures.0 ∙ c.requires.own.0, (keeps c.args.bit step.result old new told step.ensures.2.0).0 ∙ c.requires.own.1);
+      event = says.0;
+      first = says.1;
+      met = says.2;
+      room = subst (λ size. length new.listed ≤ size) c.requires.own.1 (at_most new.listed old.size step.ensures.2.0);
+    }

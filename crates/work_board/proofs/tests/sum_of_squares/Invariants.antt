@@ -1,9 +1,0 @@
-use Rattle.std.proofs.Common.{◌≡◌, ◌-◌, length}
-use Rattle.work_board.specs.DrawPasses.{view_of, IsPassOf}
-use Rattle.work_board.proofs.tests.sum_of_squares.Given as goal
-
-abbrev pub invariant-loop-unit : goal.invariant-loop-unit
-invariant-loop-unit l = IsPassOf l.board l.pass × ((view_of l.pass).nones ≡ 0)
-
-abbrev pub decreases-loop-unit : goal.decreases-loop-unit
-decreases-loop-unit l = l.board.units - length (view_of l.pass).drawn
