@@ -49,8 +49,8 @@ fn edit(
     splice(groups, from, to, rows, key_of(code))
 }
 
-/// The codes of a column's formulas, kept as groups. Contracts see what each row has, row 1 first, and how
-/// many single rows can be set or cleared before memory is asked for.
+/// The codes of a column's formulas, kept as groups. Contracts see what each row has, row 1 first,
+/// and how many single rows can be set or cleared before memory is asked for.
 #[derive(Debug, Drop)]
 pub struct GroupColumn {
     groups: Vec<Group>,
@@ -93,11 +93,12 @@ impl GroupColumn {
         self.groups.reserve(places)
     }
 
-    /// Gives a row a code. It is logarithmic in the groups, and linear in those behind the row where the
-    /// number of groups changes.
+    /// Gives a row a code. It is logarithmic in the groups, and linear in those behind the row
+    /// where the number of groups changes.
     pub fn set_code(&mut self, row: u32, id: CodeId) -> Result<(), NoMemory>
         requires { AreRows row row }
-        ensures ok { OnOk result (self.new.entries ≡ slice_set self.old.entries (row - 1) (Some id)) }
+        ensures ok { OnOk result (self.new.entries
+            ≡ slice_set self.old.entries (row - 1) (Some id)) }
         ensures err { OnErr result (self.new.entries ≡ self.old.entries) }
         ensures reserved { 1 ≤ self.old.spare → IsOk result }
         ensures spare { OnOk result (self.old.spare ≤ self.new.spare + 1) }
@@ -136,11 +137,12 @@ impl GroupColumn {
         edit(&mut self.groups, first - 1, last, last + 1 - first, None)
     }
 
-    /// Puts in rows without a code from a place on, and takes as many from the end. It is linear in the
-    /// groups behind the place.
+    /// Puts in rows without a code from a place on, and takes as many from the end. It is linear in
+    /// the groups behind the place.
     pub fn insert_rows(&mut self, place: u32, count: u32) -> Result<(), NoMemory>
         requires { IsRowEdit place count }
-        ensures ok { OnOk result (self.new.entries ≡ rows_inserted (place - 1) count None self.old.entries) }
+        ensures ok { OnOk result (self.new.entries
+            ≡ rows_inserted (place - 1) count None self.old.entries) }
         ensures err { OnErr result (self.new.entries ≡ self.old.entries) }
     {
         self.groups.reserve(2 * PLACES)?;
@@ -148,11 +150,12 @@ impl GroupColumn {
         edit(&mut self.groups, place - 1, place - 1, count, None)
     }
 
-    /// Takes out rows from a place on, and adds as many without a code at the end. It is linear in the
-    /// groups behind the place.
+    /// Takes out rows from a place on, and adds as many without a code at the end. It is linear in
+    /// the groups behind the place.
     pub fn erase_rows(&mut self, place: u32, count: u32) -> Result<(), NoMemory>
         requires { IsRowEdit place count }
-        ensures ok { OnOk result (self.new.entries ≡ rows_erased (place - 1) count None self.old.entries) }
+        ensures ok { OnOk result (self.new.entries
+            ≡ rows_erased (place - 1) count None self.old.entries) }
         ensures err { OnErr result (self.new.entries ≡ self.old.entries) }
     {
         edit(&mut self.groups, place - 1, place - 1 + count, 0, None)
@@ -161,7 +164,8 @@ impl GroupColumn {
     /// The group of a row, if it has a code. It is logarithmic in the groups.
     pub fn group_at(&self, row: u32) -> Option<Group>
         requires { AreRows row row }
-        ensures code { slice_get self.now.entries (row - 1) ≡ Some (option_map (λ g. g.code) result) }
+        ensures code { slice_get self.now.entries (row - 1)
+            ≡ Some (option_map (λ g. g.code) result) }
         ensures group { IfSome result (Contains (groups_of self.now.entries)) }
         ensures from { IfSome result (λ g. g.first ≤ row) }
         ensures to { IfSome result (λ g. row ≤ g.last) }

@@ -6,7 +6,8 @@ ghost use Rattle.run_tables.specs.Edges.{IsFirstPast, IsFirstEndingPast};
 
 use crate::piece::Piece;
 
-/// The place of the first run that begins past a row, or the number of runs. It takes logarithmic time.
+/// The place of the first run that begins past a row, or the number of runs. It takes logarithmic
+/// time.
 pub fn first_past<P: Piece>(table: &[P], row: u32) -> usize
     ensures within { result ≤ length table.now }
     ensures place { IsFirstPast row (map P.run table.now) result }
@@ -24,7 +25,8 @@ pub fn first_past<P: Piece>(table: &[P], row: u32) -> usize
     low
 }
 
-/// The place of the first run that ends past a row, or the number of runs. It takes logarithmic time.
+/// The place of the first run that ends past a row, or the number of runs. It takes logarithmic
+/// time.
 pub fn first_ending_past<P: Piece>(table: &[P], row: u32) -> usize
     ensures within { result ≤ length table.now }
     ensures place { IsFirstEndingPast row (map P.run table.now) result }

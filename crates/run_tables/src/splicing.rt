@@ -14,7 +14,8 @@ use std::alloc::AllocError;
 /// The run in front of a place, without its rows past `row`.
 fn left_part<P: Piece>(table: &[P], place: usize, row: u32) -> Option<P>
     requires { place ≤ length table.now }
-    ensures { option_map P.run result ≡ option_map (up_to row) (run_before (map P.run table.now) place) }
+    ensures { option_map P.run result
+        ≡ option_map (up_to row) (run_before (map P.run table.now) place) }
 {
     if place == 0 {
         return None;
@@ -51,12 +52,14 @@ fn fill_part<P: Piece>(row: u32, rows: u32, key: Option<P>) -> Option<P>
     Some(piece.placed(row + 1, row + rows))
 }
 
-/// Puts a piece over the first of the places from `from` to `to`, or in front of them where there is none.
+/// Puts a piece over the first of the places from `from` to `to`, or in front of them where there
+/// is none.
 fn put<P: Piece>(table: &mut Vec<P>, from: usize, to: usize, piece: Option<P>) -> (usize, usize)
     requires order { from ≤ to }
     requires within { to ≤ vec_len table.old }
     requires room { vec_len table.old < vec_capacity table.old }
-    ensures front { take result.0 table.new.items ≡ take from table.old.items ++ option_to_list piece }
+    ensures front { take result.0 table.new.items
+        ≡ take from table.old.items ++ option_to_list piece }
     ensures back { drop result.1 table.new.items ≡ drop to table.old.items }
     ensures order { result.0 ≤ result.1 }
     ensures within { result.1 ≤ vec_len table.new }
@@ -134,10 +137,11 @@ fn move_tail<P: Piece>(table: &mut Vec<P>, place: usize, from: u32, to: u32)
     }
 }
 
-/// The rows from the one behind `from` to `to` become `rows` rows that hold the key of a piece, or none.
+/// The rows from the one behind `from` to `to` become `rows` rows that hold the key of a piece, or
+/// none.
 ///
-/// At most three places more are taken. It is logarithmic in the runs, and linear in those behind the rows
-/// where their number changes, or the number of runs does.
+/// At most three places more are taken. It is logarithmic in the runs, and linear in those behind
+/// the rows where their number changes, or the number of runs does.
 pub fn splice<P: Piece>(
     table: &mut Vec<P>,
     from: u32,
