@@ -1,4 +1,4 @@
-ghost use Rattle.std.specs.Prelude.{◌≡◌, ◌≤◌, ◌+◌, ◌-◌, ◌↔◌, [], ◌++◌, Some, length, map, slice_get, IsTrue, IfSome, IfNone, OnOk, OnErr};
+ghost use Rattle.std.specs.Prelude.{◌≡◌, false, ◌≤◌, ◌+◌, ◌-◌, ◌↔◌, [], ◌++◌, Some, length, map, slice_get, IsTrue, IfSome, IfNone, OnOk, OnErr};
 ghost use Rattle.std.specs.List.{Contains};
 ghost use Rattle.cell_runs.specs.CellLists.{IsFirstAbove, LieBefore, all_cells, cells_of, first_number, number_of};
 
@@ -78,6 +78,14 @@ fn first_behind(runs: &[Run], cell: u64) -> usize
     low
 }
 
+/// Whether the second run begins right behind the first.
+fn goes_on(first: Run, second: Run) -> bool
+    ensures { IsTrue result ↔ (first.sheet ≡ second.sheet × first.col ≡ second.col
+        × first.last + 1 ≡ second.first) }
+{
+    first.sheet == second.sheet && first.col == second.col && first.last + 1 == second.first
+}
+
 /// Whether a run that begins at a cell or in front of it has the cell.
 fn has_cell(run: Run, cell: Cell) -> bool
     ensures { IsTrue result ↔ (run.sheet ≡ cell.sheet × run.col ≡ cell.col × cell.row ≤ run.last) }
@@ -97,8 +105,43 @@ impl CellRuns {
         }
     }
 
-    /// Appends the cells of a run.
+    /// Lengthens the last run by one that goes on with it, or answers false.
+    fn lengthen(&mut self, run: Run) -> bool
+        ensures yes { IsTrue result → self.new ≡ self.old ++ cells_of run }
+        ensures no { result ≡ false → self.new ≡ self.old }
+    {
+        let count_before = self.runs.len();
+        if count_before == 0 {
+            return false;
+        }
+        let last = self.runs[count_before - 1];
+        if !goes_on(last, run) {
+            return false;
+        }
+        self.runs[count_before - 1] = Run {
+            sheet: last.sheet,
+            col: last.col,
+            first: last.first,
+            last: run.last,
+        };
+        self.len += count(run);
+        true
+    }
+
+    /// Appends the cells of a run, which lengthens the last run where it goes on with it.
     pub fn push(&mut self, run: Run) -> Result<(), NoMemory>
+        requires { LieBefore self.old run }
+        ensures ok { OnOk result (self.new ≡ self.old ++ cells_of run) }
+        ensures err { OnErr result (self.new ≡ self.old) }
+    {
+        if self.lengthen(run) {
+            return Ok(());
+        }
+        self.append(run)
+    }
+
+    /// Appends a run.
+    fn append(&mut self, run: Run) -> Result<(), NoMemory>
         requires { LieBefore self.old run }
         ensures ok { OnOk result (self.new ≡ self.old ++ cells_of run) }
         ensures err { OnErr result (self.new ≡ self.old) }

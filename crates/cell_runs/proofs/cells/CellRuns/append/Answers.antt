@@ -5,7 +5,7 @@ use Rattle.calc_addr.specs.Places.{IsRows}
 use Rattle.cell_runs.specs.CellLists.{all_cells, cells_of, LieBefore, IsList}
 use Rattle.cell_runs.proofs.Numbers.{length-cells}
 use Rattle.cell_runs.proofs.Indexed.{index-total, index-push}
-use Rattle.cell_runs.proofs.cells.CellRuns.push.Goals as goal
+use Rattle.cell_runs.proofs.cells.CellRuns.append.Goals as goal
 
 pub overflow_add-self : goal.overflow_add-self
 overflow_add-self c =
