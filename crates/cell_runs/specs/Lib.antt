@@ -1,0 +1,2 @@
+-- CellLists: the cells of runs, in a list.
+pub mod CellLists
