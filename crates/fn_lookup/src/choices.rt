@@ -101,7 +101,9 @@ fn cell_along<V: Values>(
     values: &V,
 ) -> Result<Value, NoMemory>
     ensures { IfOk result (λ v. v ≡ cell_along (record {
-        area = area; values = values_in (V.values values.now) area }) place) }
+      area = area;
+      values = values_in (V.values values.now) area;
+    }) place) }
 {
     if area.first_row == area.last_row && area.first_col != area.last_col {
         cell_in(alloc, area, 1, place, values)
@@ -119,7 +121,9 @@ fn cell_in<V: Values>(
     values: &V,
 ) -> Result<Value, NoMemory>
     ensures { IfOk result (λ v. v ≡ cell_in (record {
-        area = area; values = values_in (V.values values.now) area }) row col) }
+      area = area;
+      values = values_in (V.values values.now) area;
+    }) row col) }
 {
     if row < 1 || col < 1 || i64::from(row_count(area)) < row || i64::from(col_count(area)) < col {
         return Ok(Value::Bad(Fault::BadRef));
@@ -138,7 +142,9 @@ pub(crate) fn value_in<V: Values>(
     requires row { row < row_count area }
     requires col { col < col_count area }
     ensures { IfOk result (λ v. v ≡ value_in (record {
-        area = area; values = values_in (V.values values.now) area }) row col) }
+      area = area;
+      values = values_in (V.values values.now) area;
+    }) row col) }
 {
     let cell = Cell {
         sheet: area.sheet,

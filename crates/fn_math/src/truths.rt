@@ -28,7 +28,10 @@ impl Truths {
 
     fn count(&mut self, holds: bool)
         ensures { self.new ≡ record {
-            some = true; all = self.old.all && holds; any = self.old.any || holds } }
+          some = true;
+          all = self.old.all && holds;
+          any = self.old.any || holds;
+        } }
     {
         self.some = true;
         self.all = self.all && holds;

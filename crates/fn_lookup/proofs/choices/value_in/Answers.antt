@@ -10,5 +10,5 @@ returns g c =
     let v = g.V.Values.values c.args.values.now in
     let is = c.area.view_is in
     let there = subst (λ a. v (record { sheet = c.area.inside.sheet; col = c.area.inside.first_col + c.args.col; row = c.area.inside.first_row + c.args.row }) ≡ value_in (record { area = a; values = values_in v a }) c.args.row c.args.col) is
-        (value-there v _ c.args.row c.args.col (subst (λ a. c.args.row < row_count a) (sym is) c.requires.row) (subst (λ a. c.args.col < col_count a) (sym is) c.requires.col)) in
+    (value-there v _ c.args.row c.args.col (subst (λ a. c.args.row < row_count a) (sym is) c.requires.row) (subst (λ a. c.args.col < col_count a) (sym is) c.requires.col)) in
     search (rules, c.look.ensures ∙ there)
