@@ -1,6 +1,6 @@
 -- A formula's value depends on the values of the cells that it reads, and on no others.
 use Rattle.std.proofs.Common.{◌≡◌, Bool, true, false, ◌&&◌, List, [], ◌∷◌, ◌++◌, refl, sym, ap, subst, ◌∙◌, cond, arith, map, Some}
-use Rattle.std.specs.List.{AllByRecursion, list_all}
+use Rattle.std.specs.List.{AllByRecursion, flat_map, list_all}
 use Rattle.calc_addr.specs.Places.{Place, Rectangle, covers, places}
 use Rattle.calc_addr.specs.References.{here}
 use Rattle.calc_model.specs.declared.value.Value.TheVariants.{Bad}
@@ -13,6 +13,7 @@ use Rattle.calc_model.specs.declared.looked.Looked.TheVariants.{Absent, Gone, At
 use Rattle.calc_model.specs.Reads.{Names, areas, areas_step, named_areas}
 use Rattle.calc_model.specs.Scalars.{CellValues, scalar_at, if_covered, one_col, one_row}
 use Rattle.calc_model.specs.Operators.{binary, hundredth, negated}
+use Rattle.calc_model.specs.Functions.{function_value}
 use Rattle.calc_model.specs.Meanings.{Meaning, meaning_of_area, scalar_alone, values_in}
 use Rattle.calc_model.specs.Eval.{meaning, meaning_step, meaning_of_name, eval}
 use Rattle.calc_model.proofs.Areas.{all_places, both_true}
@@ -92,6 +93,16 @@ module _ (home : Place) (names : Names) (v w : CellValues) where
   abbrev two : Tree-F Meaning → Meaning
   two = meaning_step home names w
 
+  -- the same of a list of parameters
+  all_same : (args : List Tree) → AllByRecursion Claim args → Agree v w (flat_map (λ areas. areas) (map (areas home names) args)) → map (meaning home names v) args ≡ map (meaning home names w) args
+  unfolding Claim
+  all_same [] all h = refl
+  all_same (x ∷ xs) all h =
+      let front = areas home names x in
+      let rest = flat_map (λ areas. areas) (map (areas home names) xs) in
+      ap (λ m. m ∷ map (meaning home names v) xs) (all.0 (agree_front v w front rest h))
+      ∙ ap (λ ms. meaning home names w x ∷ ms) (all_same xs all.1 (agree_back v w front rest h))
+
   cases : Cases Claim
   unfolding Claim
   cases = record {
@@ -100,7 +111,10 @@ module _ (home : Place) (names : Names) (v w : CellValues) where
     bad = λ fault h. fold.at-Bad Meaning one fault ∙ sym (fold.at-Bad Meaning two fault);
     reference = λ r h. fold.at-Ref Meaning one r ∙ area_same (here r home) (along (fold.at-Ref (List Rectangle) by r) h) ∙ sym (fold.at-Ref Meaning two r);
     name = λ name h. fold.at-Name Meaning one name ∙ name_same (names name) (along (fold.at-Name (List Rectangle) by name) h) ∙ sym (fold.at-Name Meaning two name);
-    call = λ name args is h. fold.at-Call Meaning one name args ∙ sym (fold.at-Call Meaning two name args);
+    call = λ name args is h.
+        fold.at-Call Meaning one name args
+        ∙ ap (λ ms. scalar_alone (function_value home name ms)) (all_same args is (along (fold.at-Call (List Rectangle) by name args) h))
+        ∙ sym (fold.at-Call Meaning two name args);
     paren = λ x is h. fold.at-Paren Meaning one x ∙ is (along (fold.at-Paren (List Rectangle) by x) h) ∙ sym (fold.at-Paren Meaning two x);
     plus = λ x is h. fold.at-Plus Meaning one x ∙ ap (λ (m : Meaning). scalar_alone m.scalar) (is (along (fold.at-Plus (List Rectangle) by x) h)) ∙ sym (fold.at-Plus Meaning two x);
     minus = λ x is h. fold.at-Minus Meaning one x ∙ ap (λ (m : Meaning). scalar_alone (negated m.scalar)) (is (along (fold.at-Minus (List Rectangle) by x) h)) ∙ sym (fold.at-Minus Meaning two x);

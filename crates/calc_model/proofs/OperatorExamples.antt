@@ -1,15 +1,15 @@
 -- Worked examples of coercions, comparison and operators.
-use Rattle.std.proofs.Common.{◌≡◌, ℕ, ℤ, pos, negsuc, ◌-◌, ◌*◌, ◌^◌, true, false, [], ◌∷◌, codes, refl, Ok, Err}
-use Rattle.std.specs.declared.cmp.Ordering.TheVariants.{Less, Equal, Greater}
+use Rattle.std.proofs.Common.{◌≡◌, ℕ, pos, negsuc, ◌-◌, ◌*◌, ◌^◌, true, false, [], ◌∷◌, codes, refl, Ok, Err}
+use Rattle.std.specs.declared.cmp.Ordering.TheVariants.{Less, Greater}
 use Rattle.std.specs.Fmt.{digits}
 use Rattle.calc_num.specs.Decimals.{repeated_product}
 use Rattle.calc_num.specs.Numbers.{last_digits}
 use Rattle.calc_model.specs.declared.fault.Fault.TheVariants.{NA, DivZero, BadValue, BadNum, Over}
-use Rattle.calc_model.specs.declared.tree.Op.TheVariants.{Pow, Mul, Div, Add, Sub, Cat, Eq, Ne, Lt, Le, Gt, Ge}
+use Rattle.calc_model.specs.declared.tree.Op.TheVariants.{Pow, Mul, Div, Add, Sub, Cat, Eq, Ne, Lt, Gt, Ge}
 use Rattle.calc_model.specs.declared.value.Value.{Value}
 use Rattle.calc_model.specs.declared.value.Value.TheVariants.{Number, Words, Bad, Blank}
 use Rattle.calc_model.specs.Operators.{binary, hundredth, negated}
-use Rattle.calc_model.specs.Scalars.{compared, number_of, truth_of, words_of}
+use Rattle.calc_model.specs.Scalars.{compared, number_of, truth_of}
 
 abbrev whole : ℕ → Value
 whole n = Number (pos (n * 10 ^ 9))

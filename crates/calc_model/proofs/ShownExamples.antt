@@ -1,12 +1,10 @@
 -- Worked examples of small books of one row, and what their cells show.
 use Rattle.std.proofs.Common.{◌≡◌, ◌∙◌, ◌+◌, ◌-◌, ◌*◌, ◌^◌, ◌&&◌, not, ℕ, zero, suc, pos, negsuc, Bool, true, false, List, [], ◌∷◌, ◌++◌, ap, arith, codes, map, refl, eq-eqb}
-use Rattle.std.specs.Prelude.{◌+ℤ◌}
 use Rattle.std.specs.List.{list_all, flat_map, range_with_len}
 use Rattle.std.specs.Fmt.{digits}
-use Rattle.calc_num.specs.Decimals.{checked}
 use Rattle.calc_num.specs.Numbers.{last_digits}
 use Rattle.calc_addr.specs.Places.{Place, Rectangle, places, single}
-use Rattle.calc_addr.specs.References.{IsReference, Reference, here}
+use Rattle.calc_addr.specs.References.{Reference, here}
 use Rattle.calc_addr.specs.declared.reference.Span.TheVariants.{One}
 use Rattle.calc_model.specs.declared.fault.Fault.TheVariants.{NA, DivZero, BadValue, Over, Syntax, Circular}
 use Rattle.calc_model.specs.declared.value.Value.{Value}

@@ -1,5 +1,5 @@
 -- A counter of steps: how many were counted, and how many parts of its ledger it holds.
-use Rattle.std.specs.Prelude.{◌≤◌, ℕ, ◌-◌, ◌^◌, ◌<◌}
+use Rattle.std.specs.Prelude.{ℕ, ◌-◌, ◌^◌, ◌<◌}
 
 pub record Counter : Type 0 where
   pub count : ℕ

@@ -1,6 +1,6 @@
 -- Criteria, after OpenFormula, 4.11.8: which cells a value picks. A text may begin with a comparison; else equality is
 -- meant. What is left of it is a number where it reads as one, else a text.
-use Rattle.std.specs.Prelude.{ℕ, ℤ, ◌||◌, nat_eq, not, Bool, true, false, List, [], ◌∷◌, codes, drop, Option, Some, None, if◌then◌else◌, Result, Ok, Err}
+use Rattle.std.specs.Prelude.{ℕ, ◌||◌, nat_eq, not, Bool, true, false, List, [], codes, drop, Option, Some, None, if◌then◌else◌}
 use Rattle.std.specs.List.{starts_with}
 use Rattle.std.specs.Cmp.Lexicographic.{slice_cmp}
 use Rattle.std.specs.Ordering.{int_cmp, is_eq, is_ge, is_gt, is_le, is_lt, nat_cmp}
@@ -11,7 +11,7 @@ use Rattle.calc_num.specs.declared.parse.Reading.TheVariants as readings
 use Rattle.calc_model.specs.declared.tree.Op.{Op}
 use Rattle.calc_model.specs.declared.tree.Op.TheVariants.{Eq, Ne, Lt, Le, Gt, Ge}
 use Rattle.calc_model.specs.declared.value.Value.{Value}
-use Rattle.calc_model.specs.declared.value.Value.TheVariants.{Number, Words, Bad, Blank}
+use Rattle.calc_model.specs.declared.value.Value.TheVariants.{Number, Words, Blank}
 
 pub record Criterion : Type 0 where
   pub op : Op

@@ -1,5 +1,5 @@
 -- What a formula gives over the values of a book, after OpenFormula's evaluation of expressions.
-use Rattle.std.specs.Prelude.{ℕ, pos, List}
+use Rattle.std.specs.Prelude.{pos}
 use Rattle.calc_addr.specs.Places.{Place}
 use Rattle.calc_addr.specs.References.{here}
 use Rattle.calc_model.specs.declared.fault.Fault.TheVariants.{BadRef, BadName}
@@ -10,14 +10,11 @@ use Rattle.calc_model.specs.declared.looked.Looked.TheVariants.{Absent, Gone, At
 use Rattle.calc_model.specs.declared.tree.Tree.{Tree}
 use Rattle.calc_model.specs.declared.tree.Tree.TheOpen.{Tree-F}
 use Rattle.calc_model.specs.declared.tree.Tree.TheFolds.{fold-Tree}
+use Rattle.calc_model.specs.Functions.{function_value}
 use Rattle.calc_model.specs.Meanings.{Meaning, meaning_of_area, scalar_alone}
 use Rattle.calc_model.specs.Operators.{binary, hundredth, negated}
 use Rattle.calc_model.specs.Reads.{Names}
 use Rattle.calc_model.specs.Scalars.{CellValues}
-
--- What a call at home gives, from its name and the meanings of its parameters. No function is built yet.
-abbrev pub called : Place → List ℕ → List Meaning → Value
-called home name parameters = Bad BadName
 
 module _ (home : Place) (names : Names) (values : CellValues) where
   abbrev pub meaning_of_name : Looked → Meaning
@@ -37,7 +34,7 @@ module _ (home : Place) (names : Names) (values : CellValues) where
   meaning_step (Tree-F.Minus child) = scalar_alone (negated child.scalar)
   meaning_step (Tree-F.Percent child) = scalar_alone (hundredth child.scalar)
   meaning_step (Tree-F.Binary op left right) = scalar_alone (binary op left.scalar right.scalar)
-  meaning_step (Tree-F.Call name args) = scalar_alone (called home name args)
+  meaning_step (Tree-F.Call name args) = scalar_alone (function_value home name args)
 
   abbrev pub meaning : Tree → Meaning
   meaning = fold-Tree Meaning meaning_step

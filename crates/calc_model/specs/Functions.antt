@@ -1,9 +1,13 @@
 -- The functions: their names, how many parameters they take, and what they give, after OpenFormula, 6.
-use Rattle.std.specs.Prelude.{ℕ, ◌&&◌, nat_le, List, [], ◌∷◌, codes, length, Option, Some, None, if◌then◌else◌}
+use Rattle.std.specs.Prelude.{ℕ, ◌&&◌, nat_le, Bool, List, [], ◌∷◌, ◌++◌, codes, length, Option, Some, None, option_map, if◌then◌else◌}
 use Rattle.std.specs.List.{find}
 use Rattle.std.specs.Str.{bytes_eq}
 use Rattle.calc_addr.specs.Places.{Place, Rectangle}
 use Rattle.calc_model.specs.declared.fault.Fault.TheVariants.{BadName, BadValue}
+use Rattle.calc_model.specs.declared.function.Form.{Form}
+use Rattle.calc_model.specs.declared.function.Function.{Function}
+use Rattle.calc_model.specs.declared.function.Function.TheVariants as function
+use Rattle.calc_model.specs.declared.limits.TheConstants.{MOST_PARAMETERS}
 use Rattle.calc_model.specs.declared.value.Value.{Value}
 use Rattle.calc_model.specs.declared.value.Value.TheVariants.{Bad}
 use Rattle.calc_model.specs.Logic.{and, false_, if_, if_error, is_blank, is_error, is_not_available, is_number, is_text, not_, not_available, of_kind, or, true_}
@@ -13,77 +17,175 @@ use Rattle.calc_model.specs.Rounding.{abs, int, mod_, power, quotient_, round, r
 use Rattle.calc_model.specs.Statistics.{average, count, count_a, count_blank, count_if, max_, min_, product, sum, sum_if}
 use Rattle.calc_model.specs.Texts.{concatenate, exact, find_, left, len, mid, rept, right, value}
 
-pub record Function : Type 0 where
-  pub name : List ℕ
-  pub least : ℕ
-  pub most : ℕ
-  pub gives : Place → List Meaning → Value
+abbrev pub form : Function → ℕ → ℕ → Form
+form function least most = record { function = function; least = least; most = most }
 
-abbrev pub function : List ℕ → ℕ → ℕ → (List Meaning → Value) → Function
-function name least most gives = record { name = name; least = least; most = most; gives = λ home. gives }
+-- Names, and for each the function and the least and the most parameters that it takes.
+abbrev pub Forms : Type 0
+Forms = List (List ℕ × Form)
 
-abbrev pub functions : List Function
-functions =
-    function (codes "ABS") 1 1 abs
-    ∷ function (codes "SIGN") 1 1 sign
-    ∷ function (codes "INT") 1 1 int
-    ∷ function (codes "TRUNC") 1 2 round_down
-    ∷ function (codes "ROUNDDOWN") 1 2 round_down
-    ∷ function (codes "ROUND") 1 2 round
-    ∷ function (codes "ROUNDUP") 1 2 round_up
-    ∷ function (codes "MOD") 2 2 mod_
-    ∷ function (codes "QUOTIENT") 2 2 quotient_
-    ∷ function (codes "POWER") 2 2 power
-    ∷ function (codes "SQRT") 1 1 square_root
-    ∷ function (codes "AND") 1 30 and
-    ∷ function (codes "OR") 1 30 or
-    ∷ function (codes "NOT") 1 1 not_
-    ∷ function (codes "TRUE") 0 0 true_
-    ∷ function (codes "FALSE") 0 0 false_
-    ∷ function (codes "NA") 0 0 not_available
-    ∷ function (codes "IF") 2 3 if_
-    ∷ function (codes "IFERROR") 2 2 if_error
-    ∷ function (codes "ISERROR") 1 1 (of_kind is_error)
-    ∷ function (codes "ISNA") 1 1 (of_kind is_not_available)
-    ∷ function (codes "ISNUMBER") 1 1 (of_kind is_number)
-    ∷ function (codes "ISTEXT") 1 1 (of_kind is_text)
-    ∷ function (codes "ISBLANK") 1 1 (of_kind is_blank)
-    ∷ function (codes "LEN") 1 1 len
-    ∷ function (codes "LEFT") 1 2 left
-    ∷ function (codes "RIGHT") 1 2 right
-    ∷ function (codes "MID") 3 3 mid
-    ∷ function (codes "FIND") 2 3 find_
-    ∷ function (codes "REPT") 2 2 rept
-    ∷ function (codes "EXACT") 2 2 exact
-    ∷ function (codes "CONCATENATE") 1 30 concatenate
-    ∷ function (codes "VALUE") 1 1 value
-    ∷ function (codes "SUM") 1 30 sum
-    ∷ function (codes "AVERAGE") 1 30 average
-    ∷ function (codes "MIN") 1 30 min_
-    ∷ function (codes "MAX") 1 30 max_
-    ∷ function (codes "PRODUCT") 1 30 product
-    ∷ function (codes "COUNT") 1 30 count
-    ∷ function (codes "COUNTA") 1 30 count_a
-    ∷ function (codes "COUNTBLANK") 1 1 count_blank
-    ∷ function (codes "COUNTIF") 2 2 count_if
-    ∷ function (codes "SUMIF") 2 3 sum_if
-    ∷ function (codes "INDEX") 2 3 index
-    ∷ function (codes "MATCH") 2 3 match_
-    ∷ function (codes "VLOOKUP") 3 4 (look_up looked_up_down)
-    ∷ function (codes "HLOOKUP") 3 4 (look_up looked_up_along)
-    ∷ function (codes "CHOOSE") 2 30 choose
-    ∷ record { name = codes "ROW"; least = 0; most = 1; gives = first_of (λ (p : Place). p.row) (λ (a : Rectangle). a.first_row) }
-    ∷ record { name = codes "COLUMN"; least = 0; most = 1; gives = first_of (λ (p : Place). p.col) (λ (a : Rectangle). a.first_col) }
-    ∷ function (codes "ROWS") 1 1 (size_of row_count)
-    ∷ function (codes "COLUMNS") 1 1 (size_of col_count)
+-- functions of numbers, 6.16 and 6.17
+abbrev pub forms_of_numbers : Forms
+forms_of_numbers =
+    (codes "ABS", form function.Abs 1 1)
+    ∷ (codes "SIGN", form function.Sign 1 1)
+    ∷ (codes "INT", form function.Int 1 1)
+    ∷ (codes "TRUNC", form function.Trunc 1 2)
+    ∷ (codes "ROUNDDOWN", form function.RoundDown 1 2)
+    ∷ (codes "ROUND", form function.Round 1 2)
+    ∷ (codes "ROUNDUP", form function.RoundUp 1 2)
+    ∷ (codes "MOD", form function.Mod 2 2)
+    ∷ (codes "QUOTIENT", form function.Quotient 2 2)
+    ∷ (codes "POWER", form function.Power 2 2)
+    ∷ (codes "SQRT", form function.Sqrt 1 1)
     ∷ []
 
+-- functions of logical values, 6.15, and of kinds of values, 6.13
+abbrev pub forms_of_logic : Forms
+forms_of_logic =
+    (codes "AND", form function.And 1 MOST_PARAMETERS)
+    ∷ (codes "OR", form function.Or 1 MOST_PARAMETERS)
+    ∷ (codes "NOT", form function.Not 1 1)
+    ∷ (codes "TRUE", form function.True 0 0)
+    ∷ (codes "FALSE", form function.False 0 0)
+    ∷ (codes "NA", form function.Na 0 0)
+    ∷ (codes "IF", form function.If 2 3)
+    ∷ (codes "IFERROR", form function.IfError 2 2)
+    ∷ (codes "ISERROR", form function.IsError 1 1)
+    ∷ (codes "ISNA", form function.IsNa 1 1)
+    ∷ (codes "ISNUMBER", form function.IsNumber 1 1)
+    ∷ (codes "ISTEXT", form function.IsText 1 1)
+    ∷ (codes "ISBLANK", form function.IsBlank 1 1)
+    ∷ []
+
+-- functions of texts, 6.20
+abbrev pub forms_of_texts : Forms
+forms_of_texts =
+    (codes "LEN", form function.Len 1 1)
+    ∷ (codes "LEFT", form function.Left 1 2)
+    ∷ (codes "RIGHT", form function.Right 1 2)
+    ∷ (codes "MID", form function.Mid 3 3)
+    ∷ (codes "FIND", form function.Find 2 3)
+    ∷ (codes "REPT", form function.Rept 2 2)
+    ∷ (codes "EXACT", form function.Exact 2 2)
+    ∷ (codes "CONCATENATE", form function.Concatenate 1 MOST_PARAMETERS)
+    ∷ (codes "VALUE", form function.Value 1 1)
+    ∷ []
+
+-- functions of lists, 6.16 and 6.18, and of criteria, 6.13
+abbrev pub forms_of_lists : Forms
+forms_of_lists =
+    (codes "SUM", form function.Sum 1 MOST_PARAMETERS)
+    ∷ (codes "AVERAGE", form function.Average 1 MOST_PARAMETERS)
+    ∷ (codes "MIN", form function.Min 1 MOST_PARAMETERS)
+    ∷ (codes "MAX", form function.Max 1 MOST_PARAMETERS)
+    ∷ (codes "PRODUCT", form function.Product 1 MOST_PARAMETERS)
+    ∷ (codes "COUNT", form function.Count 1 MOST_PARAMETERS)
+    ∷ (codes "COUNTA", form function.CountA 1 MOST_PARAMETERS)
+    ∷ (codes "COUNTBLANK", form function.CountBlank 1 1)
+    ∷ (codes "COUNTIF", form function.CountIf 2 2)
+    ∷ (codes "SUMIF", form function.SumIf 2 3)
+    ∷ []
+
+-- functions that look into areas, 6.14
+abbrev pub forms_of_areas : Forms
+forms_of_areas =
+    (codes "INDEX", form function.Index 2 3)
+    ∷ (codes "MATCH", form function.Match 2 3)
+    ∷ (codes "VLOOKUP", form function.VLookup 3 4)
+    ∷ (codes "HLOOKUP", form function.HLookup 3 4)
+    ∷ (codes "CHOOSE", form function.Choose 2 MOST_PARAMETERS)
+    ∷ (codes "ROW", form function.Row 0 1)
+    ∷ (codes "COLUMN", form function.Column 0 1)
+    ∷ (codes "ROWS", form function.Rows 1 1)
+    ∷ (codes "COLUMNS", form function.Columns 1 1)
+    ∷ []
+
+-- those of a family and of all behind it
+abbrev pub forms_from_lists : Forms
+forms_from_lists = forms_of_lists ++ forms_of_areas
+
+abbrev pub forms_from_texts : Forms
+forms_from_texts = forms_of_texts ++ forms_from_lists
+
+abbrev pub forms_from_logic : Forms
+forms_from_logic = forms_of_logic ++ forms_from_texts
+
+-- all of them
+abbrev pub forms : Forms
+forms = forms_of_numbers ++ forms_from_logic
+
+abbrev pub named_in : Forms → List ℕ → Option Form
+named_in forms name = option_map (λ entry. entry.1) (find (λ entry. bytes_eq name entry.0) forms)
+
+-- the function of that name
+abbrev pub form_named : List ℕ → Option Form
+form_named = named_in forms
+
+-- what each function gives to a formula at home
+abbrev pub given : Function → Place → List Meaning → Value
+given function.Abs home parameters = abs parameters
+given function.Sign home parameters = sign parameters
+given function.Int home parameters = int parameters
+given function.Trunc home parameters = round_down parameters
+given function.RoundDown home parameters = round_down parameters
+given function.Round home parameters = round parameters
+given function.RoundUp home parameters = round_up parameters
+given function.Mod home parameters = mod_ parameters
+given function.Quotient home parameters = quotient_ parameters
+given function.Power home parameters = power parameters
+given function.Sqrt home parameters = square_root parameters
+given function.And home parameters = and parameters
+given function.Or home parameters = or parameters
+given function.Not home parameters = not_ parameters
+given function.True home parameters = true_ parameters
+given function.False home parameters = false_ parameters
+given function.Na home parameters = not_available parameters
+given function.If home parameters = if_ parameters
+given function.IfError home parameters = if_error parameters
+given function.IsError home parameters = of_kind is_error parameters
+given function.IsNa home parameters = of_kind is_not_available parameters
+given function.IsNumber home parameters = of_kind is_number parameters
+given function.IsText home parameters = of_kind is_text parameters
+given function.IsBlank home parameters = of_kind is_blank parameters
+given function.Len home parameters = len parameters
+given function.Left home parameters = left parameters
+given function.Right home parameters = right parameters
+given function.Mid home parameters = mid parameters
+given function.Find home parameters = find_ parameters
+given function.Rept home parameters = rept parameters
+given function.Exact home parameters = exact parameters
+given function.Concatenate home parameters = concatenate parameters
+given function.Value home parameters = value parameters
+given function.Sum home parameters = sum parameters
+given function.Average home parameters = average parameters
+given function.Min home parameters = min_ parameters
+given function.Max home parameters = max_ parameters
+given function.Product home parameters = product parameters
+given function.Count home parameters = count parameters
+given function.CountA home parameters = count_a parameters
+given function.CountBlank home parameters = count_blank parameters
+given function.CountIf home parameters = count_if parameters
+given function.SumIf home parameters = sum_if parameters
+given function.Index home parameters = index parameters
+given function.Match home parameters = match_ parameters
+given function.VLookup home parameters = look_up looked_up_down parameters
+given function.HLookup home parameters = look_up looked_up_along parameters
+given function.Choose home parameters = choose parameters
+given function.Row home parameters = first_of (λ (p : Place). p.row) (λ (a : Rectangle). a.first_row) home parameters
+given function.Column home parameters = first_of (λ (p : Place). p.col) (λ (a : Rectangle). a.first_col) home parameters
+given function.Rows home parameters = size_of row_count parameters
+given function.Columns home parameters = size_of col_count parameters
+
+abbrev pub takes : Form → ℕ → Bool
+takes form count = nat_le form.least count && nat_le count form.most
+
 -- what a function gives: no value for a number of parameters that it doesn't take
-abbrev pub applied : Place → List Meaning → Option Function → Value
+abbrev pub applied : Place → List Meaning → Option Form → Value
 applied home parameters None = Bad BadName
-applied home parameters (Some f) =
-    if nat_le f.least (length parameters) && nat_le (length parameters) f.most then f.gives home parameters else Bad BadValue
+applied home parameters (Some form) =
+    if takes form (length parameters) then given form.function home parameters else Bad BadValue
 
 -- what a call of the function with that name gives to a formula at home
 unfoldable pub function_value : Place → List ℕ → List Meaning → Value
-function_value home name parameters = applied home parameters (find (λ f. bytes_eq name f.name) functions)
+function_value home name parameters = applied home parameters (form_named name)

@@ -1,5 +1,5 @@
 -- Which formulas read a cell, directly or through others, over the areas that each formula cell reads.
-use Rattle.std.specs.Prelude.{◌≡◌, ◌≤◌, ◌<◌, ◌↔◌, ℕ, ◌+◌, ◌-◌, Bool, true, false, List, [], ◌∷◌, ◌++◌, length, map, Option, Some, None, Contains, All}
+use Rattle.std.specs.Prelude.{◌≡◌, ◌≤◌, ◌<◌, ◌↔◌, ℕ, ◌-◌, true, List, [], ◌++◌, length, map, Option, Some, None, Contains, All}
 use Rattle.std.specs.List.{AllPairs, list_any, flat_map, slice_range}
 use Rattle.calc_addr.specs.Places.{Place, Rectangle, Rows, IsBefore, column_places, covers, places}
 use Rattle.calc_model.specs.declared.dependents.Part.{Part}

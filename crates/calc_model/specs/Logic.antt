@@ -1,5 +1,5 @@
 -- Functions of logical values and of kinds of values, after OpenFormula, 6.15 and 6.13.
-use Rattle.std.specs.Prelude.{ℤ, pos, ◌^◌, ◌||◌, not, Bool, true, false, List, [], ◌∷◌, if◌then◌else◌}
+use Rattle.std.specs.Prelude.{ℤ, pos, not, Bool, true, false, List, [], ◌∷◌, if◌then◌else◌}
 use Rattle.std.specs.List.{list_all, list_any}
 use Rattle.std.specs.Ordering.{int_eq}
 use Rattle.calc_model.specs.declared.fault.Fault.TheVariants.{NA, BadValue}

@@ -1,5 +1,5 @@
 -- Functions that look into areas, after OpenFormula, 6.14: cells by their place, searches, rows and columns.
-use Rattle.std.specs.Prelude.{ℕ, ℤ, pos, negsuc, zero, suc, ◌+◌, ◌-◌, ◌*◌, ◌==◌, ◌&&◌, ◌||◌, nat_le, not, Bool, true, List, [], ◌∷◌, map, take, Option, Some, None, if◌then◌else◌}
+use Rattle.std.specs.Prelude.{ℕ, ℤ, pos, zero, suc, ◌+◌, ◌-◌, ◌*◌, ◌&&◌, ◌||◌, nat_le, not, Bool, true, List, [], ◌∷◌, map, take, Option, Some, None, if◌then◌else◌}
 use Rattle.std.specs.List.{range_with_len, slice_index_or}
 use Rattle.calc_addr.specs.Places.{Place, Rectangle}
 use Rattle.calc_model.specs.declared.fault.Fault.TheVariants.{BadRef, BadValue, NA}

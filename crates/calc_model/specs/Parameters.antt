@@ -4,7 +4,7 @@ use Rattle.std.specs.Prelude.{ℕ, ℤ, pos, int_div, ◌^◌, Bool, List, [], �
 use Rattle.calc_model.specs.declared.fault.Fault.{Fault}
 use Rattle.calc_model.specs.declared.fault.Fault.TheVariants.{BadValue}
 use Rattle.calc_model.specs.declared.value.Value.{Value}
-use Rattle.calc_model.specs.declared.value.Value.TheVariants.{Number, Words, Bad, Blank}
+use Rattle.calc_model.specs.declared.value.Value.TheVariants.{Number, Bad, Blank}
 use Rattle.calc_model.specs.Meanings.{Meaning, ValuedArea}
 use Rattle.calc_model.specs.Scalars.{number_of, truth_of, words_of}
 

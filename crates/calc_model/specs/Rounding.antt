@@ -1,5 +1,5 @@
 -- Functions of one or two numbers, after OpenFormula, 6.16 and 6.17: sizes and signs, rounding, division, powers.
-use Rattle.std.specs.Prelude.{ℕ, ℤ, pos, ◌^◌, ◌*ℤ◌, List, [], ◌∷◌, Result, Ok}
+use Rattle.std.specs.Prelude.{ℤ, pos, ◌^◌, ◌*ℤ◌, List, [], ◌∷◌, Result, Ok}
 use Rattle.std.specs.Int.{int_signum}
 use Rattle.std.specs.Int.RustNames.{unsigned_abs}
 use Rattle.calc_num.specs.Decimals.{floor_mod, pow, quotient, round_to, sqrt}
@@ -8,7 +8,7 @@ use Rattle.calc_num.specs.declared.rounding.Way.{Way}
 use Rattle.calc_num.specs.declared.rounding.Way.TheVariants.{Nearest, Away, Toward, Floor}
 use Rattle.calc_model.specs.declared.fault.Fault.TheVariants.{BadValue}
 use Rattle.calc_model.specs.declared.value.Value.{Value}
-use Rattle.calc_model.specs.declared.value.Value.TheVariants.{Number, Bad}
+use Rattle.calc_model.specs.declared.value.Value.TheVariants.{Bad}
 use Rattle.calc_model.specs.Meanings.{Meaning}
 use Rattle.calc_model.specs.Operators.{from_ok, value_of}
 use Rattle.calc_model.specs.Parameters.{number, whole}

@@ -1,6 +1,6 @@
 -- Searches over the values of cells, after OpenFormula, 6.14: only cells of the sought value's kind, number or text, take
 -- part. Places are counted from 0.
-use Rattle.std.specs.Prelude.{ℕ, ℤ, pos, negsuc, zero, suc, ◌&&◌, not, Bool, true, List, [], ◌∷◌, length, reverse, take, Option, Some, None}
+use Rattle.std.specs.Prelude.{ℕ, ℤ, pos, negsuc, zero, suc, ◌&&◌, not, Bool, List, length, reverse, take, Option}
 use Rattle.std.specs.List.{find, list_all, range_with_len, slice_index_or}
 use Rattle.std.specs.Ordering.{is_eq, is_ge, is_gt, is_le, is_lt}
 use Rattle.std.specs.declared.cmp.Ordering.{Ordering}

@@ -1,11 +1,11 @@
 -- Sums, means, extremes and counts over lists and areas, after OpenFormula, 6.16 and 6.18.
-use Rattle.std.specs.Prelude.{ℕ, ℤ, pos, ◌+ℤ◌, ◌==◌, ◌&&◌, ◌+◌, ◌-◌, ◌^◌, not, Bool, true, false, List, [], ◌∷◌, fold, length, map, if◌then◌else◌}
+use Rattle.std.specs.Prelude.{ℤ, pos, ◌+ℤ◌, ◌==◌, ◌&&◌, ◌-◌, ◌^◌, not, Bool, true, false, List, [], ◌∷◌, fold, length, map, if◌then◌else◌}
 use Rattle.std.specs.Int.{int_max, int_min}
 use Rattle.std.specs.List.{count_by, filter, flat_map, zip}
 use Rattle.calc_addr.specs.Places.{Rectangle}
 use Rattle.calc_num.specs.Decimals.{◌>>=◌, checked, mul, nearest}
 use Rattle.calc_num.specs.declared.num.NumFault.{NumFault}
-use Rattle.std.specs.Prelude.{Result, Ok, Err}
+use Rattle.std.specs.Prelude.{Result, Ok}
 use Rattle.calc_model.specs.declared.fault.Fault.TheVariants.{BadValue, DivZero}
 use Rattle.calc_model.specs.declared.value.Value.{Value}
 use Rattle.calc_model.specs.declared.value.Value.TheVariants.{Number, Words, Bad, Blank}

@@ -1,5 +1,5 @@
 -- Functions of texts, after OpenFormula, 6.20. They count characters, which are those that the bytes spell in UTF-8.
-use Rattle.std.specs.Prelude.{ℕ, ℤ, pos, negsuc, zero, suc, ◌+◌, ◌-◌, ◌*◌, ◌^◌, nat_eq, nat_lt, List, [], ◌∷◌, drop, length, replicate, take, Option, Some, None, if◌then◌else◌}
+use Rattle.std.specs.Prelude.{ℕ, ℤ, pos, negsuc, suc, ◌+◌, ◌-◌, ◌*◌, ◌^◌, nat_eq, List, [], ◌∷◌, drop, length, replicate, take, Option, Some, None}
 use Rattle.std.specs.List.{find, flat_map, starts_with}
 use Rattle.std.specs.Str.{bytes_eq, chars, encode_utf8_all}
 use Rattle.calc_addr.specs.Places.{from_to}

@@ -1,12 +1,12 @@
 -- Cells of an area by what they show: the used ones in area order, circles among them, and the values of a part of
 -- one column.
-use Rattle.std.specs.Prelude.{◌≡◌, ◌≤◌, ℕ, ◌&&◌, Bool, true, false, List, [], ◌∷◌, length, map, replicate, take, Option, Some, None}
+use Rattle.std.specs.Prelude.{◌≡◌, ◌≤◌, ◌&&◌, Bool, true, false, List, [], ◌∷◌, length, map, replicate, take, Option, Some, None}
 use Rattle.std.specs.List.{filter, list_any}
 use Rattle.std.specs.Ordering.{is_lt}
 use Rattle.calc_addr.specs.Places.{Place, Rectangle, Rows, column_places, place_cmp, places}
 use Rattle.calc_model.specs.declared.fault.Fault.TheVariants.{Circular}
 use Rattle.calc_model.specs.declared.value.Value.{Value}
-use Rattle.calc_model.specs.declared.value.Value.TheVariants.{Number, Words, Bad, Blank}
+use Rattle.calc_model.specs.declared.value.Value.TheVariants.{Number, Bad, Blank}
 use Rattle.calc_model.specs.declared.values.Piece.{Piece}
 use Rattle.calc_model.specs.declared.values.Piece.TheVariants as piece
 use Rattle.calc_model.specs.Scalars.{CellValues}

@@ -9,6 +9,7 @@ mod dependents;
 mod ear;
 mod edit;
 mod fault;
+mod function;
 mod identifier;
 mod laws;
 mod limits;
@@ -29,6 +30,7 @@ pub use dependents::{Dependents, Part};
 pub use ear::Ear;
 pub use edit::{Edit, EditCause};
 pub use fault::Fault;
+pub use function::{Form, Function, form_named};
 pub use identifier::{begins_identifier, is_identifier, is_in_identifier, is_name, is_utf8};
 pub use laws::{edits_keep_books, fixed_point, rounds_reach_all};
 pub use limits::{
