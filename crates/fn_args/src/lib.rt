@@ -6,6 +6,7 @@ mod counts;
 mod kinds;
 mod pieces;
 mod tally;
+mod wanted;
 mod words;
 
 pub use answers::{copied, counted, scalar, truth, value, value_of};
@@ -13,4 +14,5 @@ pub use counts::{Test, count_area, count_list};
 pub use kinds::{area, number, truth_value, whole};
 pub use pieces::Pieces;
 pub use tally::{Tally, lies_in_sheet, small, tally_list};
-pub use words::{Words, key, text};
+pub use wanted::{Wanted, order_in_kind, wanted_by};
+pub use words::{Words, text};

@@ -1,10 +1,9 @@
 ghost use Rattle.std.specs.Prelude.{◌≡◌, IfOk};
 ghost use Rattle.calc_model.specs.Arguments.{meaning_of};
-ghost use Rattle.calc_model.specs.Parameters.{key, text};
-ghost use Rattle.calc_model.specs.Parameters.{key_of};
+ghost use Rattle.calc_model.specs.Parameters.{text};
 ghost use Rattle.calc_model.specs.Scalars.{words_of};
 ghost use Rattle.calc_model.specs.ValueTexts.{lent};
-ghost use Rattle.fn_args.specs.Lent.{key_lent, words_in, words_lent};
+ghost use Rattle.fn_args.specs.Lent.{words_in, words_lent};
 
 use calc_addr::{Cell, NoMemory};
 use calc_model::{Arg, Fault, Seen, Text, Value, Values, scalar_at};
@@ -55,27 +54,6 @@ fn words_of<'a>(alloc: Global, seen: Seen<'a>) -> Result<Result<Words<'a>, Fault
         Seen::Words(text) => Ok(Ok(Words::Lent(text))),
         Seen::Bad(fault) => Ok(Err(fault)),
         Seen::Blank => Ok(Ok(Words::Made(Text::new(alloc)))),
-    }
-}
-
-/// What is searched for, or compared with: blank is 0, and an error is itself.
-pub fn key<'a, V: Values>(arg: &'a Arg, home: Cell, values: &'a V) -> Result<Seen<'a>, Fault>
-    ensures { key_lent result ≡ key (meaning_of home (V.values values.entry.now) arg.entry.now) }
-{
-    match arg {
-        Arg::Scalar(value) => key_of(value.seen()),
-        Arg::Area(area) => key_of(scalar_at(*area, home, values)),
-    }
-}
-
-fn key_of(seen: Seen<'_>) -> Result<Seen<'_>, Fault>
-    ensures { key_lent result ≡ key_of (lent seen.entry) }
-{
-    match seen {
-        Seen::Number(number) => Ok(Seen::Number(number)),
-        Seen::Words(text) => Ok(Seen::Words(text)),
-        Seen::Bad(fault) => Err(fault),
-        Seen::Blank => Ok(Seen::Number(Num::default())),
     }
 }
 

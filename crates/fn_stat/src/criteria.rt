@@ -5,26 +5,19 @@ ghost use Rattle.calc_model.specs.Arguments.{meaning_of, meanings_of};
 ghost use Rattle.std.specs.List.{count_by};
 ghost use Rattle.calc_model.specs.Meanings.{values_in};
 ghost use Rattle.calc_model.specs.Texts.{counted};
-ghost use Rattle.calc_model.specs.Parameters.{key, key_of};
 ghost use Rattle.calc_model.specs.Statistics.{count_if};
-ghost use Rattle.calc_model.specs.Criteria.{criterion, criterion_by, criterion_of_text, is_equal, matches, matches_by, order_in_kind, passes};
+ghost use Rattle.calc_model.specs.Criteria.{criterion, criterion_by, criterion_of_text, is_equal, matches, matches_by, passes};
 ghost use Rattle.calc_model.specs.ValueTexts.{lent};
 ghost use Rattle.calc_model.specs.declared.value.Value.TheVariants as value;
-ghost use Rattle.fn_stat.specs.Criterions.{meant, wanted_lent, wanted_value};
+ghost use Rattle.fn_args.specs.Lent.{wanted_value};
+ghost use Rattle.fn_stat.specs.Criterions.{meant};
 
 use calc_addr::{Area, Cell, NoMemory};
 use calc_model::{Arg, Fault, Op, Seen, Value, Values};
 use calc_num::{Num, Reading};
-use fn_args::{Test, area, count_area, counted, scalar};
+use fn_args::{Test, Wanted, area, count_area, counted, order_in_kind, wanted_by};
 use std::alloc::Global;
 use std::cmp::Ordering;
-
-/// What cells are compared with.
-#[derive(Clone, Copy)]
-pub(crate) enum Wanted<'a> {
-    Number(Num),
-    Words(&'a [u8]),
-}
 
 /// How cells compare with a value where they match.
 #[derive(Clone, Copy)]
@@ -80,36 +73,6 @@ fn criterion_by(op: Op, bytes: &[u8]) -> Criterion<'_>
             op,
             with: Wanted::Words(bytes),
         },
-    }
-}
-
-/// How a cell compares with a value of its own kind.
-fn order_in_kind(seen: &Seen<'_>, with: &Wanted<'_>) -> Option<Ordering>
-    ensures { result ≡ order_in_kind (lent seen.now) (wanted_value with.now) }
-{
-    match seen {
-        Seen::Number(number) => order_of_number(*number, with),
-        Seen::Words(text) => order_of_words(text.bytes(), with),
-        Seen::Bad(_fault) => None,
-        Seen::Blank => None,
-    }
-}
-
-fn order_of_number(number: Num, with: &Wanted<'_>) -> Option<Ordering>
-    ensures { result ≡ order_in_kind (value.Number number) (wanted_value with.now) }
-{
-    match with {
-        Wanted::Number(other) => Some(number.raw().cmp(&other.raw())),
-        Wanted::Words(_bytes) => None,
-    }
-}
-
-fn order_of_words(bytes: &[u8], with: &Wanted<'_>) -> Option<Ordering>
-    ensures { result ≡ order_in_kind (value.Words bytes.now) (wanted_value with.now) }
-{
-    match with {
-        Wanted::Number(_number) => None,
-        Wanted::Words(other) => Some(bytes.cmp(other)),
     }
 }
 
@@ -219,27 +182,4 @@ fn count_matching<V: Values>(area: Area, wanted: &Wanted<'_>, values: &V) -> Val
 {
     let criterion = criterion_of(wanted);
     counted(count_area(area, values, &criterion))
-}
-
-/// What a parameter asks cells to be compared with, or its error.
-pub(crate) fn wanted_by<'a, V: Values>(
-    arg: &'a Arg,
-    home: Cell,
-    values: &'a V,
-) -> Result<Wanted<'a>, Fault>
-    ensures { wanted_lent result ≡ key (meaning_of home (V.values values.entry.now) arg.entry.now) }
-{
-    let seen = scalar(arg, home, values);
-    wanted_of(&seen)
-}
-
-fn wanted_of<'a>(seen: &Seen<'a>) -> Result<Wanted<'a>, Fault>
-    ensures { wanted_lent result ≡ key_of (lent seen.now) }
-{
-    match seen {
-        Seen::Number(number) => Ok(Wanted::Number(*number)),
-        Seen::Words(text) => Ok(Wanted::Words(text.bytes())),
-        Seen::Bad(fault) => Err(*fault),
-        Seen::Blank => Ok(Wanted::Number(Num::default())),
-    }
 }

@@ -1,4 +1,4 @@
-use Rattle.std.proofs.Common.{◌≤◌, ◌∙◌, length, map, sym, arith, rules}
+use Rattle.std.proofs.Common.{sym, arith, rules}
 use Rattle.std.proofs.lemmas.List.{length-map}
 use Rattle.calc_model.specs.Arguments.{meaning_of, meanings_of}
 use Rattle.fn_lookup.proofs.Numbering.{chosen-at, chosen-past}

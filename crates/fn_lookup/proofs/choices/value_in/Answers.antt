@@ -1,5 +1,4 @@
-use Rattle.std.proofs.Common.{◌≡◌, ◌+◌, ◌<◌, ℕ, ap, sym, subst, ◌∙◌, rules}
-use Rattle.calc_addr.specs.Places.{Place, Rectangle}
+use Rattle.std.proofs.Common.{◌≡◌, ◌+◌, ◌<◌, sym, subst, ◌∙◌, rules}
 use Rattle.calc_model.specs.Lookup.{col_count, row_count, value_in}
 use Rattle.calc_model.specs.Meanings.{values_in}
 use Rattle.fn_lookup.proofs.Numbering.{value-there}
