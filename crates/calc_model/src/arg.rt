@@ -7,3 +7,9 @@ pub enum Arg {
     Scalar(Value),
     Area(Area),
 }
+
+impl Default for Arg {
+    fn default() -> Self {
+        Arg::Scalar(Value::Blank)
+    }
+}

@@ -1,5 +1,5 @@
 ghost use Rattle.std.specs.Prelude.{◌≡◌};
-ghost use Rattle.calc_model.specs.Functions.{form_named, forms_from_lists, forms_from_logic, forms_from_texts, forms_of_areas, named_in};
+ghost use Rattle.calc_model.specs.Functions.{form_named, forms_from_lists, forms_from_logic, forms_from_texts, forms_of_areas, named_in, takes};
 
 use crate::limits::MOST_PARAMETERS;
 
@@ -68,7 +68,16 @@ pub struct Form {
     pub most: usize,
 }
 
-const fn takes(function: Function, least: usize, most: usize) -> Form
+impl Form {
+    /// Whether it takes so many parameters.
+    pub fn takes(&self, count: usize) -> bool
+        ensures { result ≡ takes self.now count }
+    {
+        self.least <= count && count <= self.most
+    }
+}
+
+const fn taking(function: Function, least: usize, most: usize) -> Form
     ensures { result ≡ record { function = function; least = least; most = most } }
 {
     Form {
@@ -83,17 +92,17 @@ pub fn form_named(name: &str) -> Option<Form>
     ensures { result ≡ form_named name.now }
 {
     let form = match name {
-        "ABS" => takes(Function::Abs, 1, 1),
-        "SIGN" => takes(Function::Sign, 1, 1),
-        "INT" => takes(Function::Int, 1, 1),
-        "TRUNC" => takes(Function::Trunc, 1, 2),
-        "ROUNDDOWN" => takes(Function::RoundDown, 1, 2),
-        "ROUND" => takes(Function::Round, 1, 2),
-        "ROUNDUP" => takes(Function::RoundUp, 1, 2),
-        "MOD" => takes(Function::Mod, 2, 2),
-        "QUOTIENT" => takes(Function::Quotient, 2, 2),
-        "POWER" => takes(Function::Power, 2, 2),
-        "SQRT" => takes(Function::Sqrt, 1, 1),
+        "ABS" => taking(Function::Abs, 1, 1),
+        "SIGN" => taking(Function::Sign, 1, 1),
+        "INT" => taking(Function::Int, 1, 1),
+        "TRUNC" => taking(Function::Trunc, 1, 2),
+        "ROUNDDOWN" => taking(Function::RoundDown, 1, 2),
+        "ROUND" => taking(Function::Round, 1, 2),
+        "ROUNDUP" => taking(Function::RoundUp, 1, 2),
+        "MOD" => taking(Function::Mod, 2, 2),
+        "QUOTIENT" => taking(Function::Quotient, 2, 2),
+        "POWER" => taking(Function::Power, 2, 2),
+        "SQRT" => taking(Function::Sqrt, 1, 1),
         _ => return of_logic(name),
     };
     Some(form)
@@ -104,19 +113,19 @@ fn of_logic(name: &str) -> Option<Form>
     ensures { result ≡ named_in forms_from_logic name.now }
 {
     let form = match name {
-        "AND" => takes(Function::And, 1, MOST_PARAMETERS),
-        "OR" => takes(Function::Or, 1, MOST_PARAMETERS),
-        "NOT" => takes(Function::Not, 1, 1),
-        "TRUE" => takes(Function::True, 0, 0),
-        "FALSE" => takes(Function::False, 0, 0),
-        "NA" => takes(Function::Na, 0, 0),
-        "IF" => takes(Function::If, 2, 3),
-        "IFERROR" => takes(Function::IfError, 2, 2),
-        "ISERROR" => takes(Function::IsError, 1, 1),
-        "ISNA" => takes(Function::IsNa, 1, 1),
-        "ISNUMBER" => takes(Function::IsNumber, 1, 1),
-        "ISTEXT" => takes(Function::IsText, 1, 1),
-        "ISBLANK" => takes(Function::IsBlank, 1, 1),
+        "AND" => taking(Function::And, 1, MOST_PARAMETERS),
+        "OR" => taking(Function::Or, 1, MOST_PARAMETERS),
+        "NOT" => taking(Function::Not, 1, 1),
+        "TRUE" => taking(Function::True, 0, 0),
+        "FALSE" => taking(Function::False, 0, 0),
+        "NA" => taking(Function::Na, 0, 0),
+        "IF" => taking(Function::If, 2, 3),
+        "IFERROR" => taking(Function::IfError, 2, 2),
+        "ISERROR" => taking(Function::IsError, 1, 1),
+        "ISNA" => taking(Function::IsNa, 1, 1),
+        "ISNUMBER" => taking(Function::IsNumber, 1, 1),
+        "ISTEXT" => taking(Function::IsText, 1, 1),
+        "ISBLANK" => taking(Function::IsBlank, 1, 1),
         _ => return of_texts(name),
     };
     Some(form)
@@ -127,15 +136,15 @@ fn of_texts(name: &str) -> Option<Form>
     ensures { result ≡ named_in forms_from_texts name.now }
 {
     let form = match name {
-        "LEN" => takes(Function::Len, 1, 1),
-        "LEFT" => takes(Function::Left, 1, 2),
-        "RIGHT" => takes(Function::Right, 1, 2),
-        "MID" => takes(Function::Mid, 3, 3),
-        "FIND" => takes(Function::Find, 2, 3),
-        "REPT" => takes(Function::Rept, 2, 2),
-        "EXACT" => takes(Function::Exact, 2, 2),
-        "CONCATENATE" => takes(Function::Concatenate, 1, MOST_PARAMETERS),
-        "VALUE" => takes(Function::Value, 1, 1),
+        "LEN" => taking(Function::Len, 1, 1),
+        "LEFT" => taking(Function::Left, 1, 2),
+        "RIGHT" => taking(Function::Right, 1, 2),
+        "MID" => taking(Function::Mid, 3, 3),
+        "FIND" => taking(Function::Find, 2, 3),
+        "REPT" => taking(Function::Rept, 2, 2),
+        "EXACT" => taking(Function::Exact, 2, 2),
+        "CONCATENATE" => taking(Function::Concatenate, 1, MOST_PARAMETERS),
+        "VALUE" => taking(Function::Value, 1, 1),
         _ => return of_lists(name),
     };
     Some(form)
@@ -146,16 +155,16 @@ fn of_lists(name: &str) -> Option<Form>
     ensures { result ≡ named_in forms_from_lists name.now }
 {
     let form = match name {
-        "SUM" => takes(Function::Sum, 1, MOST_PARAMETERS),
-        "AVERAGE" => takes(Function::Average, 1, MOST_PARAMETERS),
-        "MIN" => takes(Function::Min, 1, MOST_PARAMETERS),
-        "MAX" => takes(Function::Max, 1, MOST_PARAMETERS),
-        "PRODUCT" => takes(Function::Product, 1, MOST_PARAMETERS),
-        "COUNT" => takes(Function::Count, 1, MOST_PARAMETERS),
-        "COUNTA" => takes(Function::CountA, 1, MOST_PARAMETERS),
-        "COUNTBLANK" => takes(Function::CountBlank, 1, 1),
-        "COUNTIF" => takes(Function::CountIf, 2, 2),
-        "SUMIF" => takes(Function::SumIf, 2, 3),
+        "SUM" => taking(Function::Sum, 1, MOST_PARAMETERS),
+        "AVERAGE" => taking(Function::Average, 1, MOST_PARAMETERS),
+        "MIN" => taking(Function::Min, 1, MOST_PARAMETERS),
+        "MAX" => taking(Function::Max, 1, MOST_PARAMETERS),
+        "PRODUCT" => taking(Function::Product, 1, MOST_PARAMETERS),
+        "COUNT" => taking(Function::Count, 1, MOST_PARAMETERS),
+        "COUNTA" => taking(Function::CountA, 1, MOST_PARAMETERS),
+        "COUNTBLANK" => taking(Function::CountBlank, 1, 1),
+        "COUNTIF" => taking(Function::CountIf, 2, 2),
+        "SUMIF" => taking(Function::SumIf, 2, 3),
         _ => return of_areas(name),
     };
     Some(form)
@@ -166,15 +175,15 @@ fn of_areas(name: &str) -> Option<Form>
     ensures { result ≡ named_in forms_of_areas name.now }
 {
     let form = match name {
-        "INDEX" => takes(Function::Index, 2, 3),
-        "MATCH" => takes(Function::Match, 2, 3),
-        "VLOOKUP" => takes(Function::VLookup, 3, 4),
-        "HLOOKUP" => takes(Function::HLookup, 3, 4),
-        "CHOOSE" => takes(Function::Choose, 2, MOST_PARAMETERS),
-        "ROW" => takes(Function::Row, 0, 1),
-        "COLUMN" => takes(Function::Column, 0, 1),
-        "ROWS" => takes(Function::Rows, 1, 1),
-        "COLUMNS" => takes(Function::Columns, 1, 1),
+        "INDEX" => taking(Function::Index, 2, 3),
+        "MATCH" => taking(Function::Match, 2, 3),
+        "VLOOKUP" => taking(Function::VLookup, 3, 4),
+        "HLOOKUP" => taking(Function::HLookup, 3, 4),
+        "CHOOSE" => taking(Function::Choose, 2, MOST_PARAMETERS),
+        "ROW" => taking(Function::Row, 0, 1),
+        "COLUMN" => taking(Function::Column, 0, 1),
+        "ROWS" => taking(Function::Rows, 1, 1),
+        "COLUMNS" => taking(Function::Columns, 1, 1),
         _ => return None,
     };
     Some(form)

@@ -4,7 +4,7 @@ use Rattle.std.specs.Prelude.{IsSome}
 use Rattle.std.proofs.lemmas.Bool.{le-leb, leb-true}
 use Rattle.calc_addr.specs.Places.{Place}
 use Rattle.calc_model.specs.Meanings.{Meaning, scalar_alone}
-use Rattle.calc_model.specs.Eval.{called}
+use Rattle.calc_model.specs.Functions.{function_value}
 use Rattle.calc_model.specs.Operators.{binary}
 use Rattle.calc_model.specs.Reads.{Names}
 use Rattle.calc_model.specs.Scalars.{CellValues}
@@ -14,7 +14,7 @@ use Rattle.formula_code.specs.declared.node.Node.TheVariants as node
 use Rattle.cell_interpreter.specs.declared.operand.Operand.{Operand}
 use Rattle.cell_interpreter.specs.declared.operand.Operand.TheVariants as operand
 use Rattle.cell_interpreter.specs.declared.scalar.Scalar.{Scalar}
-use Rattle.cell_interpreter.specs.Machine.{Acts, CanAct, Meanings, Pops, acted, meaning_of, no_function, stacked}
+use Rattle.cell_interpreter.specs.Machine.{Acts, Calls, CanAct, Meanings, Pops, acted, meaning_of, stacked}
 use Rattle.cell_interpreter.specs.Operands.{value_of}
 use Rattle.cell_interpreter.proofs.Stacks.{length-stacked, stacked-push, stacked-take}
 
@@ -59,18 +59,19 @@ module _ (home : Place) (names : Names) (values : CellValues) where
       let stack = stacked home values operands in
       let size : length stack ≡ length operands = length-stacked home values operands in
       let there : nat_le args (length stack) ≡ true =
-      elim (nat_le args (length stack)) as (λ b. IsSome (cond b (Some (scalar_alone (called home name (reverse (take args stack))) ∷ drop args stack)) None) → b ≡ true) [
+      elim (nat_le args (length stack)) as (λ b. IsSome (cond b (Some (scalar_alone (function_value home name (reverse (take args stack))) ∷ drop args stack)) None) → b ≡ true) [
         | true ↦ λ _. refl
         | false ↦ λ none. none
       ] can in
       omega (arith, leb-true _ _ there, size)
 
-  -- a call takes its parameters
-  pub calls : (name : List ℕ) (args : ℕ) (old new : List Operand) → args ≤ length old → new ≡ take (length old - args) old ++ no_function ∷ [] → Acts home names values (node.Call name args) old new
-  calls name args old new fits e =
+  -- a call takes its parameters, and leaves its value
+  pub calls : (name : List ℕ) (args : ℕ) (old new : List Operand) → args ≤ length old → Calls home values name args old new → Acts home names values (node.Call name args) old new
+  calls name args old new fits called =
       let stack = stacked home values old in
       let kept = take (length old - args) old in
       let there : nat_le args (length stack) ≡ true = le-leb _ _ (omega (arith, length-stacked home values old)) in
-      ap (λ b. cond b (Some (scalar_alone (called home name (reverse (take args stack))) ∷ drop args stack)) None) there
-      ∙ ap (λ rest. Some (meaning_of home values no_function ∷ rest)) (sym (stacked-take home values args old fits))
-      ∙ ap Some (sym (ap (stacked home values) e ∙ stacked-push home values kept no_function))
+      ap (λ b. cond b (Some (scalar_alone (function_value home name (reverse (take args stack))) ∷ drop args stack)) None) there
+      ∙ ap (λ v. Some (scalar_alone v ∷ drop args stack)) (sym called.value)
+      ∙ ap (λ rest. Some (scalar_alone (value_of called.scalar) ∷ rest)) (sym (stacked-take home values args old fits))
+      ∙ ap Some (sym (ap (stacked home values) called.put ∙ stacked-push home values kept (operand.Scalar called.scalar)))

@@ -3,3 +3,4 @@
 pub mod Stacks
 pub mod Acting
 pub mod Running
+pub mod Passing

@@ -9,7 +9,8 @@ use Rattle.std.proofs.Math.Seq.{take-append_seam, drop-append_seam}
 use Rattle.calc_addr.specs.Places.{Place}
 use Rattle.calc_model.specs.declared.tree.Tree.{Tree}
 use Rattle.calc_model.specs.Meanings.{Meaning, scalar_alone}
-use Rattle.calc_model.specs.Eval.{called, meaning, meaning_step}
+use Rattle.calc_model.specs.Functions.{function_value}
+use Rattle.calc_model.specs.Eval.{meaning, meaning_step}
 use Rattle.calc_model.specs.Reads.{Names}
 use Rattle.calc_model.specs.Scalars.{CellValues}
 use Rattle.calc_model.proofs.TreeFolds as fold
@@ -73,17 +74,17 @@ module _ (home : Place) (names : Names) (values : CellValues) where
       ∙ ap (run home names values rest) (sym (reversed_cons (means x) (map means xs) stack))
 
   -- a call finds the meanings of its parameters on the stack
-  call_acted : (name : List ℕ) (args : List Tree) (stack : Meanings) → acted home names values (node.Call name (length args)) (reverse (map means args) ++ stack) ≡ Some (scalar_alone (called home name (map means args)) ∷ stack)
+  call_acted : (name : List ℕ) (args : List Tree) (stack : Meanings) → acted home names values (node.Call name (length args)) (reverse (map means args) ++ stack) ≡ Some (scalar_alone (function_value home name (map means args)) ∷ stack)
   call_acted name args stack =
       let ms = map means args in
       let size : length (reverse ms) ≡ length args = length-reverse ms ∙ length-map args means in
       let there : nat_le (length args) (length (reverse ms ++ stack)) ≡ true = le-leb _ _ (omega (arith, size, length-append (reverse ms) stack)) in
       let front : take (length args) (reverse ms ++ stack) ≡ reverse ms = ap (λ n. take n (reverse ms ++ stack)) (sym size) ∙ take-append_seam (reverse ms) stack in
       let back : drop (length args) (reverse ms ++ stack) ≡ stack = ap (λ n. drop n (reverse ms ++ stack)) (sym size) ∙ drop-append_seam (reverse ms) stack in
-      ap (λ b. cond b (Some (scalar_alone (called home name (reverse (take (length args) (reverse ms ++ stack)))) ∷ drop (length args) (reverse ms ++ stack))) None) there
-      ∙ ap (λ xs. Some (scalar_alone (called home name (reverse xs)) ∷ drop (length args) (reverse ms ++ stack))) front
-      ∙ ap (λ xs. Some (scalar_alone (called home name xs) ∷ drop (length args) (reverse ms ++ stack))) (reverse-reverse ms)
-      ∙ ap (λ xs. Some (scalar_alone (called home name ms) ∷ xs)) back
+      ap (λ b. cond b (Some (scalar_alone (function_value home name (reverse (take (length args) (reverse ms ++ stack)))) ∷ drop (length args) (reverse ms ++ stack))) None) there
+      ∙ ap (λ xs. Some (scalar_alone (function_value home name (reverse xs)) ∷ drop (length args) (reverse ms ++ stack))) front
+      ∙ ap (λ xs. Some (scalar_alone (function_value home name xs) ∷ drop (length args) (reverse ms ++ stack))) (reverse-reverse ms)
+      ∙ ap (λ xs. Some (scalar_alone (function_value home name ms) ∷ xs)) back
 
   cases : Cases Claim
   unfolding Claim run postfix

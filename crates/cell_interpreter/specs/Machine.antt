@@ -1,12 +1,15 @@
 -- The stack machine that runs a formula's nodes in postfix order. The stack holds what the parts mean that are
 -- done, its top first; a node takes its children's meanings from it.
-use Rattle.std.specs.Prelude.{◌≡◌, ◌+◌, List, [], ◌∷◌, length, drop, fold, reverse, take, nat_le, Option, Some, None, IsSome, if◌then◌else◌}
+use Rattle.std.specs.Prelude.{◌≡◌, ℕ, ◌+◌, ◌-◌, List, [], ◌∷◌, ◌++◌, length, drop, fold, map, reverse, take, nat_le, Option, Some, None, IsSome, if◌then◌else◌}
 use Rattle.std.specs.Option.{option_and_then}
 use Rattle.calc_addr.specs.Places.{Place}
 use Rattle.calc_addr.specs.References.{here}
 use Rattle.calc_model.specs.declared.value.Value.TheVariants.{Number, Words, Bad}
 use Rattle.calc_model.specs.Meanings.{Meaning, meaning_of_area, scalar_alone}
-use Rattle.calc_model.specs.Eval.{called, meaning_of_name}
+use Rattle.calc_model.specs.Arguments.{meaning_of as meaning_of_arg}
+use Rattle.calc_model.specs.Eval.{meaning_of_name}
+use Rattle.calc_model.specs.Functions.{function_value}
+use Rattle.calc_model.specs.declared.arg.Arg.{Arg}
 use Rattle.calc_model.specs.Operators.{binary, hundredth, negated}
 use Rattle.calc_model.specs.Reads.{Names}
 use Rattle.calc_model.specs.Scalars.{CellValues}
@@ -16,7 +19,6 @@ use Rattle.cell_interpreter.specs.declared.operand.Operand.{Operand}
 use Rattle.cell_interpreter.specs.declared.operand.Operand.TheVariants as operand
 use Rattle.cell_interpreter.specs.declared.scalar.Scalar.{Scalar}
 use Rattle.cell_interpreter.specs.declared.scalar.Scalar.TheVariants as scalar
-use Rattle.calc_model.specs.declared.fault.Fault.TheVariants.{BadName}
 use Rattle.cell_interpreter.specs.Operands.{value_of}
 
 abbrev pub Meanings : Type 0
@@ -40,7 +42,7 @@ module _ (home : Place) (names : Names) (values : CellValues) where
   acted (node.Ref reference) stack = Some (meaning_of_area home values (here reference home) ∷ stack)
   acted (node.Name name) stack = Some (meaning_of_name home names values (names name) ∷ stack)
   acted (node.Call name args) stack =
-      if nat_le args (length stack) then Some (scalar_alone (called home name (reverse (take args stack))) ∷ drop args stack) else None
+      if nat_le args (length stack) then Some (scalar_alone (function_value home name (reverse (take args stack))) ∷ drop args stack) else None
   acted node.Paren (child ∷ stack) = Some (child ∷ stack)
   acted node.Plus (child ∷ stack) = Some (scalar_alone child.scalar ∷ stack)
   acted node.Minus (child ∷ stack) = Some (scalar_alone (negated child.scalar) ∷ stack)
@@ -60,9 +62,20 @@ pub record Pops (home : Place) (values : CellValues) (old new : List Operand) (s
   pub shorter : length new + 1 ≡ length old
   pub value : value_of scalar ≡ meaning.scalar
 
--- what a call gives whose function isn't there
-abbrev pub no_function : Operand
-no_function = operand.Scalar (scalar.Bad BadName)
+-- the operand is passed to a function as this parameter
+abbrev pub IsPassedAs : Operand → Arg → Type 0
+IsPassedAs operand arg = (home : Place) (values : CellValues) → meaning_of_arg home values arg ≡ meaning_of home values operand
+
+-- so many operands were taken from the top, and these are the parameters that they are, from left to right
+abbrev pub TakesArgs : ℕ → List Operand → List Operand → List Arg → Type 0
+TakesArgs count old new args =
+    (new ≡ take (length old - count) old) × ((home : Place) (values : CellValues) → map (meaning_of_arg home values) args ≡ reverse (take count (stacked home values old)))
+
+-- a call of so many parameters put its value in their place
+pub record Calls (home : Place) (values : CellValues) (name : List ℕ) (count : ℕ) (old new : List Operand) : Type 0 where
+  pub scalar : Scalar
+  pub value : value_of scalar ≡ function_value home name (reverse (take count (stacked home values old)))
+  pub put : new ≡ take (length old - count) old ++ operand.Scalar scalar ∷ []
 
 -- the node finds its children on the stack
 abbrev pub CanAct : Place → Names → CellValues → Node → List Operand → Type 0

@@ -1,14 +1,15 @@
-ghost use Rattle.std.specs.Prelude.{◌≡◌};
+ghost use Rattle.std.specs.Prelude.{◌≡◌, IfOk};
 ghost use Rattle.calc_model.specs.Books.{entry_named};
 ghost use Rattle.calc_model.specs.Eval.{meaning_of_name};
 ghost use Rattle.calc_addr.specs.Places.{Place};
 ghost use Rattle.calc_model.specs.Scalars.{CellValues};
-ghost use Rattle.cell_interpreter.specs.Machine.{meaning_of};
+ghost use Rattle.cell_interpreter.specs.Machine.{IsPassedAs, meaning_of};
 ghost use Rattle.cell_interpreter.specs.Operands.{value_of};
 
 use crate::scalar::Scalar;
-use calc_addr::{Area, Cell};
-use calc_model::{Fault, Looked, NameTable, Text, Values, scalar_at};
+use calc_addr::{Area, Cell, NoMemory};
+use calc_model::{Arg, Fault, Looked, NameTable, Text, Values, scalar_at};
+use std::alloc::Global;
 
 /// What lies on the stack: a value, or a reference, whose area goes on to whoever takes one.
 #[derive(Drop)]
@@ -40,6 +41,16 @@ impl<'a> Operand<'a> {
         match self {
             Operand::Scalar(scalar) => scalar,
             Operand::Area(area) => Scalar::of(scalar_at(area, home, values)),
+        }
+    }
+
+    /// The operand as a parameter of a call.
+    pub(crate) fn into_arg(self, alloc: Global) -> Result<Arg, NoMemory>
+        ensures { IfOk result (λ arg. IsPassedAs self.entry arg) }
+    {
+        match self {
+            Operand::Scalar(scalar) => Ok(Arg::Scalar(scalar.into_value(alloc)?)),
+            Operand::Area(area) => Ok(Arg::Area(area)),
         }
     }
 }

@@ -71,16 +71,38 @@ impl<'a> Scalar<'a> {
         }
     }
 
-    /// The value of a formula that comes to this: blank is 0.
-    pub(crate) fn into_result(self, alloc: Global) -> Result<Value, NoMemory>
-        ensures { IfOk result (λ v. v ≡ top (value_of self.entry)) }
+    /// A value that was made.
+    pub(crate) fn made(value: Value) -> Scalar<'a>
+        ensures { value_of result ≡ value }
+    {
+        match value {
+            Value::Number(number) => Scalar::Number(number),
+            Value::Words(text) => Scalar::Made(text),
+            Value::Bad(fault) => Scalar::Bad(fault),
+            Value::Blank => Scalar::Blank,
+        }
+    }
+
+    /// The value itself. A text that is lent is copied.
+    pub(crate) fn into_value(self, alloc: Global) -> Result<Value, NoMemory>
+        ensures { IfOk result (λ v. v ≡ value_of self.entry) }
     {
         match self {
             Scalar::Number(number) => Ok(Value::Number(number)),
             Scalar::Lent(text) => Ok(Value::Words(text.copy(alloc)?)),
             Scalar::Made(text) => Ok(Value::Words(text)),
             Scalar::Bad(fault) => Ok(Value::Bad(fault)),
+            Scalar::Blank => Ok(Value::Blank),
+        }
+    }
+
+    /// The value of a formula that comes to this: blank is 0.
+    pub(crate) fn into_result(self, alloc: Global) -> Result<Value, NoMemory>
+        ensures { IfOk result (λ v. v ≡ top (value_of self.entry)) }
+    {
+        match self {
             Scalar::Blank => Ok(Value::Number(Num::default())),
+            scalar => scalar.into_value(alloc),
         }
     }
 }

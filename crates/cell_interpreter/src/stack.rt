@@ -1,19 +1,24 @@
 ghost use Rattle.std.specs.Prelude.{◌≡◌, ◌∷◌, ◌++◌, ◌+◌, ◌-◌, ◌<◌, ◌≤◌, [], length, take, IfOk, OnOk};
 ghost use Rattle.arrayvec.specs.ArrayVec.{array_vec_len};
 ghost use Rattle.calc_model.specs.Books.{entry_named};
-ghost use Rattle.cell_interpreter.specs.Machine.{Acts, CanAct, Pops, no_function};
+ghost use Rattle.cell_interpreter.specs.Machine.{Acts, Calls, CanAct, Pops, TakesArgs};
 ghost use Rattle.cell_interpreter.specs.Operands.{value_of};
 ghost use Rattle.cell_interpreter.specs.Runs.{AreOfTree, IsEvaluated};
 ghost use Rattle.formula_code.specs.Lent.{lent};
 
+use crate::calls::call;
 use crate::operand::Operand;
 use crate::operators::{binary, hundredth, negated};
 use crate::scalar::Scalar;
 use arrayvec::ArrayVec;
 use calc_addr::{Cell, NoMemory};
-use calc_model::{Fault, NameTable, Values};
+use calc_model::{Arg, NameTable, Text, Values};
 use formula_code::{Token, Tokens};
+use smallvec::SmallVec;
 use std::alloc::Global;
+
+/// So many parameters of a call need no allocation.
+const FEW_PARAMETERS: usize = 4;
 
 /// The operands of the parts of a formula that are done.
 #[derive(Drop)]
@@ -77,7 +82,7 @@ impl<'a, const SIZE: usize> Stack<'a, SIZE> {
             Token::Bad(fault) => self.push(Scalar::Bad(fault)),
             Token::Ref(reference) => self.operands.push(Operand::Area(reference.here(home))),
             Token::Name(name) => self.operands.push(Operand::of_name(name, names)),
-            Token::Call { args, .. } => self.call(args),
+            Token::Call { name, args } => self.call(alloc, name, args, home, values)?,
             Token::Paren => (),
             Token::Plus => {
                 let operand = self.pop(home, values);
@@ -123,16 +128,42 @@ impl<'a, const SIZE: usize> Stack<'a, SIZE> {
         }
     }
 
-    /// A call of so many parameters. There are no functions yet.
-    fn call(&mut self, args: u8)
+    /// Puts what a call gives in the place of its parameters.
+    fn call<V: Values>(
+        &mut self,
+        alloc: Global,
+        name: &Text,
+        count: u8,
+        home: Cell,
+        values: &'a V,
+    ) -> Result<(), NoMemory>
         requires room { array_vec_len self.old.operands < SIZE }
-        requires there { args ≤ array_vec_len self.old.operands }
-        ensures called { self.new.operands.items
-            ≡ take (array_vec_len self.old.operands - args) self.old.operands.items
-            ++ no_function ∷ [] }
+        requires there { count ≤ array_vec_len self.old.operands }
+        ensures called { OnOk result (Calls home (V.values values.entry.now) name.entry.now count
+            self.old.operands.items self.new.operands.items) }
+        ensures grown { OnOk result
+            (array_vec_len self.new.operands ≤ array_vec_len self.old.operands + 1) }
     {
-        self.operands
-            .truncate(self.operands.len() - usize::from(args));
-        self.push(Scalar::Bad(Fault::BadName));
+        let args = self.parameters(alloc, count)?;
+        let value = call(alloc, name, args.as_slice(), home, values)?;
+        self.push(Scalar::made(value));
+        Ok(())
+    }
+
+    /// Takes so many parameters from the top, and gives them from left to right.
+    fn parameters(&mut self, alloc: Global, count: u8) -> Result<SmallVec<Arg, FEW_PARAMETERS>, NoMemory>
+        requires there { count ≤ array_vec_len self.old.operands }
+        ensures taken { IfOk result (λ args.
+            TakesArgs count self.old.operands.items self.new.operands.items args.items) }
+    {
+        let mut args = SmallVec::new(alloc);
+        for _ in 0..count {
+            match self.operands.pop() {
+                Some(operand) => args.push(operand.into_arg(alloc)?)?,
+                None => unreachable!(),
+            }
+        }
+        args.as_mut_slice().reverse();
+        Ok(args)
     }
 }
