@@ -1,7 +1,7 @@
 -- Trees: TreeFolds, TreeInduction, GrammarLevels. Areas and places: Areas, Places. PrintedAscii: numbers print in ASCII.
 -- What cells show: EvalSame (a formula depends on what it reads), Rounds, Shown, Pigeonhole (rounds that come to an
 -- end), Knowing, Readiness (results found in any order).
--- Edits: BooksKept (a book stays one), Reached (which cells reach which). Worked examples: the files that end so.
+-- Edits: BooksKept (a book stays one), EntriesKept, CapitalText, CapitalNames, NamesKept (so do its names), Reached (which cells reach which). Worked examples: the files that end so.
 pub mod TreeFolds
 pub mod TreeInduction
 pub mod Areas
@@ -20,3 +20,7 @@ mod OperatorExamples
 pub mod Reached
 pub mod BooksKept
 pub mod GrammarLevels
+pub mod EntriesKept
+pub mod CapitalText
+pub mod CapitalNames
+pub mod NamesKept

@@ -36,3 +36,4 @@ pub mod Listeners
 pub mod TreeShifts
 pub mod UsedCells
 pub mod Arguments
+pub mod NamedAreas
