@@ -16,6 +16,9 @@ use Rattle.calc_model.specs.declared.fault.Fault.TheVariants.{BadRef}
 use Rattle.calc_model.specs.declared.tree.Op.{Op}
 use Rattle.calc_model.specs.declared.tree.Tree.{Tree}
 use Rattle.calc_model.specs.declared.tree.Tree.TheVariants as t
+use Rattle.calc_model.specs.Changes.{IsChange, changed}
+use Rattle.calc_model.specs.declared.change.Change.{Change}
+use Rattle.calc_model.specs.declared.change.Change.TheVariants.{Stays, Moves, Inserted, Deleted}
 use Rattle.calc_model.specs.Formed.{Form, form_of, form_step, is_formed, is_well_formed, stands_within}
 use Rattle.calc_model.specs.Grammar.{op_level}
 use Rattle.calc_model.specs.Limits.{counts_of, counts_step, is_in_limits, is_within}
@@ -146,3 +149,12 @@ inserted_is_formed home sheet place count = replaced_is_formed _ (inserted_stand
 
 pub deleted_is_formed : (home : Place) (sheet place count : ℕ) → 1 ≤ place → (x : Tree) → is_formed x ≡ true → is_formed (tree_after_deletion home sheet place count x) ≡ true
 deleted_is_formed home sheet place count from = replaced_is_formed _ (deleted_stands home sheet place count from)
+
+changed_stands : (change : Change) (home : Place) → IsChange change → (r : Reference) → StandsFor (t.Ref r) (changed change home r)
+changed_stands Stays home is r = stands_itself (t.Ref r)
+changed_stands (Moves cols rows) home is r = moved_stands cols rows r
+changed_stands (Inserted sheet place count) home is r = inserted_stands home sheet place count r
+changed_stands (Deleted sheet place count) home is r = deleted_stands home sheet place count is.from r
+
+pub changed_is_formed : (change : Change) (home : Place) (x : Tree) → IsChange change → is_formed x ≡ true → is_formed (replaced (changed change home) x) ≡ true
+changed_is_formed change home x is = replaced_is_formed (changed change home) (changed_stands change home is) x

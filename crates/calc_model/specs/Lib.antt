@@ -38,6 +38,7 @@ pub mod Counters
 pub mod Ears
 pub mod Listeners
 pub mod TreeShifts
+pub mod Changes
 pub mod UsedCells
 pub mod Arguments
 pub mod NamedAreas

@@ -3,12 +3,14 @@
 #![tactic(auto)]
 
 mod arg;
+mod change;
 mod code_id;
 mod content;
 mod dependents;
 mod ear;
 mod edit;
 mod fault;
+mod homes;
 mod identifier;
 mod laws;
 mod limits;
@@ -23,12 +25,14 @@ mod value;
 mod values;
 
 pub use arg::Arg;
+pub use change::Change;
 pub use code_id::CodeId;
 pub use content::{Constant, Content, Formula};
 pub use dependents::{Dependents, Part};
 pub use ear::Ear;
 pub use edit::{Edit, EditCause};
 pub use fault::Fault;
+pub use homes::{home_after_deletion, home_after_insertion};
 pub use identifier::{begins_identifier, is_identifier, is_in_identifier, is_name, is_utf8};
 pub use laws::{
     edits_keep_books, fixed_point, formulas_stay_formed, rounds_reach_all,

@@ -11,7 +11,6 @@ pub mod Forms
 pub mod KeptForms
 pub mod SlotLemmas
 pub mod TableLemmas
-pub mod ChangedTrees
 pub mod SameNames
 pub mod EarLists
 pub mod RunReads

@@ -7,9 +7,9 @@ use Rattle.calc_model.specs.declared.tree.Tree.{Tree}
 use Rattle.calc_model.specs.declared.tree.Tree.TheVariants as t
 use Rattle.calc_model.specs.TreeShifts.{replaced}
 use Rattle.calc_model.proofs.TreeInduction.{tree_ind}
-use Rattle.formula_code.specs.declared.change.Change.{Change}
+use Rattle.calc_model.specs.declared.change.Change.{Change}
 use Rattle.formula_code.specs.declared.node.Node.{Node}
-use Rattle.formula_code.specs.Changes.{changed}
+use Rattle.calc_model.specs.Changes.{changed}
 use Rattle.formula_code.specs.Nodes.{postfix}
 use Rattle.formula_code.specs.Relative.{absolute, absolute_reference, relative, relative_reference}
 use Rattle.formula_code.specs.Staying.{StaysAfter, StaysBy, form_after}
