@@ -27,6 +27,10 @@ pub mod Formed
 pub mod Printed
 pub mod Field
 pub mod OverFields
+pub mod Homes
+pub mod CellEdits
+pub mod RowEdits
+pub mod UsedNames
 pub mod Step
 pub mod Touched
 pub mod Stale
@@ -34,5 +38,7 @@ pub mod Counters
 pub mod Ears
 pub mod Listeners
 pub mod TreeShifts
+pub mod Changes
 pub mod UsedCells
 pub mod Arguments
+pub mod NamedAreas

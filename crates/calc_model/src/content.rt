@@ -1,11 +1,14 @@
 ghost use Rattle.std.specs.Prelude.{◌≡◌, true, IfOk};
 ghost use Rattle.calc_model.specs.Contents.{IsConstant};
+ghost use Rattle.calc_model.specs.Changes.{IsChange, changed};
 ghost use Rattle.calc_model.specs.Formed.{is_formed};
+ghost use Rattle.calc_model.specs.TreeShifts.{replaced};
 
+use crate::change::Change;
 use crate::text::Text;
 use crate::tree::Tree;
 use crate::value::Value;
-use calc_addr::NoMemory;
+use calc_addr::{Cell, NoMemory};
 use std::alloc::Global;
 use std::marker::Model;
 
@@ -109,10 +112,22 @@ impl Formula {
             tree: self.tree.copy(alloc)?,
         })
     }
+
+    /// The formula of the cell `home` with a change of its references.
+    #[tactic(auto, using(crate::proofs::FormedShifts::changed_is_formed))]
+    pub fn changed(&self, alloc: Global, change: Change, home: Cell) -> Result<Formula, NoMemory>
+        requires { IsChange change }
+        ensures { IfOk result (λ f. f ≡ replaced (changed change home) self.now) }
+    {
+        Ok(Formula {
+            tree: self.tree.changed(alloc, change, home)?,
+        })
+    }
 }
 
 impl Content {
     ghost use Rattle.calc_model.specs.Books.{is_held};
+    ghost use Rattle.calc_model.specs.CellEdits.{moved_content, with_tree};
 
     /// Whether it is the content of a cell that isn't empty.
     pub fn is_held(&self) -> bool
@@ -131,5 +146,29 @@ impl Content {
             Content::Formula(formula) => Ok(Content::Formula(formula.copy(alloc)?)),
             Content::Raw(text) => Ok(Content::Raw(text.copy(alloc)?)),
         }
+    }
+
+    /// The content of the cell `home`, with a change of its references where it is a formula.
+    pub fn changed(&self, alloc: Global, change: Change, home: Cell) -> Result<Content, NoMemory>
+        requires { IsChange change }
+        ensures { IfOk result (λ c. c ≡ with_tree (replaced (changed change home)) self.now) }
+    {
+        match self {
+            Content::Empty => Ok(Content::Empty),
+            Content::Constant(constant) => Ok(Content::Constant(constant.copy(alloc)?)),
+            Content::Formula(formula) => {
+                Ok(Content::Formula(formula.changed(alloc, change, home)?))
+            }
+            Content::Raw(text) => Ok(Content::Raw(text.copy(alloc)?)),
+        }
+    }
+
+    /// The content of one cell, moved to another.
+    pub fn moved(&self, alloc: Global, from: Cell, to: Cell) -> Result<Content, NoMemory>
+        ensures { IfOk result (λ c. c ≡ moved_content from to self.now) }
+    {
+        let cols = i32::from(to.col) - i32::from(from.col);
+        let rows = to.row as i32 - from.row as i32;
+        self.changed(alloc, Change::Moves { cols, rows }, from)
     }
 }

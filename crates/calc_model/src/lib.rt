@@ -3,6 +3,7 @@
 #![tactic(auto)]
 
 mod arg;
+mod change;
 mod code_id;
 mod content;
 mod dependents;
@@ -10,6 +11,7 @@ mod ear;
 mod edit;
 mod fault;
 mod function;
+mod homes;
 mod identifier;
 mod laws;
 mod limits;
@@ -24,6 +26,7 @@ mod value;
 mod values;
 
 pub use arg::Arg;
+pub use change::Change;
 pub use code_id::CodeId;
 pub use content::{Constant, Content, Formula};
 pub use dependents::{Dependents, Part};
@@ -31,8 +34,12 @@ pub use ear::Ear;
 pub use edit::{Edit, EditCause};
 pub use fault::Fault;
 pub use function::{Form, Function, form_named};
+pub use homes::{home_after_deletion, home_after_insertion};
 pub use identifier::{begins_identifier, is_identifier, is_in_identifier, is_name, is_utf8};
-pub use laws::{edits_keep_books, fixed_point, rounds_reach_all};
+pub use laws::{
+    edits_keep_books, fixed_point, formulas_stay_formed, rounds_reach_all,
+    rows_change_their_readers,
+};
 pub use limits::{
     MOST_CELLS, MOST_FIELD_BYTES, MOST_FORMULA_BYTES, MOST_NAMES, MOST_OPEN, MOST_PARAMETERS,
     MOST_TOKENS,

@@ -11,7 +11,6 @@ pub mod Kept
 pub mod Listed
 pub mod Slots
 pub mod Table
-pub mod Changes
 pub mod Homes
 pub mod Names
 pub mod Ears

@@ -4,10 +4,10 @@ use Rattle.calc_addr.specs.Places.{Place}
 use Rattle.calc_addr.specs.References.{Reference}
 use Rattle.calc_model.specs.declared.tree.Tree.{Tree}
 use Rattle.calc_model.specs.declared.tree.Tree.TheVariants as t
-use Rattle.formula_code.specs.declared.change.Change.{Change}
+use Rattle.calc_model.specs.declared.change.Change.{Change}
 use Rattle.formula_code.specs.declared.node.Node.{Node}
 use Rattle.formula_code.specs.declared.node.Node.TheVariants.{Ref}
-use Rattle.formula_code.specs.Changes.{changed}
+use Rattle.calc_model.specs.Changes.{changed}
 use Rattle.formula_code.specs.Relative.{absolute_reference, relative}
 
 -- a node whose reference stays where references are replaced

@@ -1,13 +1,12 @@
 ghost use Rattle.std.specs.Prelude.{◌≡◌, ◌<◌, ◌≤◌, ◌++◌, ◌∷◌, [], IfOk, IsSome, Some, length, reverse, vec_len};
 ghost use Rattle.calc_model.specs.declared.tree.Tree.{Tree};
 ghost use Rattle.formula_code.specs.Building.{Builds, built_on};
-ghost use Rattle.formula_code.specs.Changes.{IsChange, changed};
+ghost use Rattle.calc_model.specs.Changes.{IsChange, changed};
 ghost use Rattle.formula_code.specs.Lent.{lent};
 
-use crate::change::Change;
 use crate::token::{Token, Tokens};
 use calc_addr::{Cell, NoMemory};
-use calc_model::Tree;
+use calc_model::{Change, Tree};
 use sqlite_items::{Boxed, Items};
 use std::alloc::Global;
 

@@ -1,20 +1,19 @@
 ghost use Rattle.std.specs.Prelude.{◌≡◌, ◌↔◌, IfOk, IsTrue, length, ◌≤◌, true};
 ghost use Rattle.calc_model.specs.Formed.{is_formed};
 ghost use Rattle.calc_model.specs.TreeShifts.{replaced};
-ghost use Rattle.formula_code.specs.Changes.{IsChange, changed};
+ghost use Rattle.calc_model.specs.Changes.{IsChange, changed};
 ghost use Rattle.formula_code.specs.Codes.{has_valid_references};
 ghost use Rattle.formula_code.specs.Digests.{digest_at, form_digest};
 ghost use Rattle.formula_code.specs.Names.{UsesName};
 ghost use Rattle.formula_code.specs.Nodes.{postfix};
 ghost use Rattle.formula_code.specs.Relative.{absolute, relative};
 
-use crate::change::Change;
 use crate::matching::strip;
 use crate::node::Node;
 use crate::token::Tokens;
 use crate::writing::write_nodes;
 use calc_addr::{Cell, NoMemory};
-use calc_model::{MOST_TOKENS, Tree};
+use calc_model::{Change, MOST_TOKENS, Tree};
 use std::alloc::Global;
 use std::marker::Model;
 

@@ -2,7 +2,6 @@
 #![tactic(auto)]
 
 mod building;
-mod change;
 mod digest;
 mod ears;
 mod index;

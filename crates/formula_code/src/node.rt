@@ -1,10 +1,9 @@
 ghost use Rattle.std.specs.Prelude.{◌≡◌, ◌↔◌, IsTrue, true};
 ghost use Rattle.std.specs.Str.{str_to_ascii_uppercase};
 
-use crate::change::Change;
 use crate::relative::RelativeRef;
 use calc_addr::Cell;
-use calc_model::{Fault, Op, Text};
+use calc_model::{Change, Fault, Op, Text};
 use calc_num::Num;
 
 /// A node of a formula without its children.
@@ -25,7 +24,7 @@ pub enum Node {
 }
 
 impl Node {
-    ghost use Rattle.formula_code.specs.Changes.{IsChange};
+    ghost use Rattle.calc_model.specs.Changes.{IsChange};
     ghost use Rattle.formula_code.specs.Names.{IsNamed};
     ghost use Rattle.formula_code.specs.Staying.{StaysAfter};
     ghost use Rattle.formula_code.specs.Tokens.{absolute_node, is_valid_node};

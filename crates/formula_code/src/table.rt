@@ -2,16 +2,15 @@ ghost use Rattle.std.specs.Prelude.{◌≡◌, ◌<◌, ◌≤◌, ◌^◌, ◌+
 ghost use Rattle.calc_model.specs.Formed.{is_formed};
 ghost use Rattle.formula_code.specs.Codes.{AreApart, AreUsed, Changes, HasForm, HasRoom, IsCodeAt, IsInterned, IsLive, IsSame, code_at, form_at, live_count, tree_at, used_again, uses_at, with_uses};
 ghost use Rattle.calc_model.specs.TreeShifts.{moved_tree, replaced, tree_after_deletion, tree_after_insertion};
-ghost use Rattle.formula_code.specs.Changes.{IsChange, IsShift, changed};
+ghost use Rattle.calc_model.specs.Changes.{IsChange, IsShift, changed};
 ghost use Rattle.formula_code.specs.Digests.{digest_at};
 ghost use Rattle.formula_code.specs.Ears.{ears};
-ghost use Rattle.formula_code.specs.Homes.{StaysDeleted, StaysInserted, cols_between, home_after_deletion, home_after_insertion, rows_between};
+ghost use Rattle.calc_model.specs.Homes.{StaysDeleted, StaysInserted, cols_between, home_after_deletion, home_after_insertion, rows_between};
 ghost use Rattle.formula_code.specs.Names.{UsesName};
 ghost use Rattle.formula_code.specs.Nodes.{postfix};
 ghost use Rattle.formula_code.specs.Relative.{relative};
 
 use crate::building::build;
-use crate::change::Change;
 use crate::digest::digest;
 use crate::ears::push_ears;
 use crate::index::Index;
@@ -19,7 +18,7 @@ use crate::kept::Kept;
 use crate::slots::Slots;
 use crate::token::Tokens;
 use calc_addr::{Cell, NoMemory};
-use calc_model::{CodeId, Ear, MOST_TOKENS, NameTable, Tree};
+use calc_model::{Change, CodeId, Ear, MOST_TOKENS, NameTable, Tree, home_after_deletion, home_after_insertion};
 use std::alloc::Global;
 use std::marker::Model;
 
@@ -362,35 +361,5 @@ impl CodeTable {
         }
         let tree = build(self.alloc, tokens, change, home)?;
         self.intern(&tree, to)
-    }
-}
-
-fn home_after_insertion(sheet: u8, place: u32, count: u32, home: Cell) -> Cell
-    requires shift { IsShift place count }
-    requires stays { StaysInserted sheet place count home }
-    ensures { result ≡ home_after_insertion sheet place count home }
-{
-    if home.sheet == sheet && place <= home.row {
-        Cell {
-            row: home.row + count,
-            ..home
-        }
-    } else {
-        home
-    }
-}
-
-fn home_after_deletion(sheet: u8, place: u32, count: u32, home: Cell) -> Cell
-    requires shift { IsShift place count }
-    requires stays { StaysDeleted sheet place count home }
-    ensures { result ≡ home_after_deletion sheet place count home }
-{
-    if home.sheet == sheet && place <= home.row {
-        Cell {
-            row: home.row - count,
-            ..home
-        }
-    } else {
-        home
     }
 }

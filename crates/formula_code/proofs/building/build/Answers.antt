@@ -1,7 +1,7 @@
 use Rattle.std.proofs.Common.{rules, ◌∷◌, [], ap, reverse, sym, ◌∙◌, Some}
 use Rattle.std.proofs.lemmas.List.{reverse-append}
 use Rattle.formula_code.specs.Building.{built}
-use Rattle.formula_code.specs.Changes.{changed}
+use Rattle.calc_model.specs.Changes.{changed}
 use Rattle.formula_code.specs.Lent.{lent}
 use Rattle.formula_code.proofs.Built.{cons, end_whole, finds_children, last_is, one_left}
 use Rattle.formula_code.proofs.building.build.Goals as goal

@@ -1,6 +1,6 @@
 use Rattle.std.proofs.Common.{◌≡◌, [], length, reverse}
 use Rattle.formula_code.specs.Building.{built}
-use Rattle.formula_code.specs.Changes.{changed}
+use Rattle.calc_model.specs.Changes.{changed}
 use Rattle.formula_code.proofs.building.build.Given as goal
 
 abbrev pub invariant-loop-token : goal.invariant-loop-token

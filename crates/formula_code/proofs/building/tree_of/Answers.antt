@@ -1,7 +1,7 @@
 use Rattle.std.proofs.Common.{◌++◌, ◌∷◌, Some, ap, reverse, sym, ◌∙◌}
 use Rattle.calc_model.specs.declared.tree.Tree.TheVariants as t
 use Rattle.formula_code.specs.Building.{built_on}
-use Rattle.formula_code.specs.Changes.{changed}
+use Rattle.calc_model.specs.Changes.{changed}
 use Rattle.formula_code.specs.declared.node.Node.TheVariants.{Call}
 use Rattle.formula_code.specs.Lent.{lent}
 use Rattle.formula_code.proofs.Built.{taken}

@@ -5,7 +5,7 @@ use Rattle.calc_model.specs.declared.tree.Tree.{Tree}
 use Rattle.calc_model.specs.TreeShifts.{replaced}
 use Rattle.formula_code.specs.declared.node.Node.{Node}
 use Rattle.formula_code.specs.Building.{tree_of}
-use Rattle.formula_code.specs.Changes.{changed}
+use Rattle.calc_model.specs.Changes.{changed}
 use Rattle.formula_code.specs.Codes.{Code, has_valid_references}
 use Rattle.formula_code.specs.Relative.{absolute, relative}
 use Rattle.formula_code.specs.Staying.{StaysAfter}

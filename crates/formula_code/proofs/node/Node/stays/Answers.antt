@@ -3,11 +3,11 @@ use Rattle.calc_addr.proofs.References.Tests.{tested-valid}
 use Rattle.calc_model.specs.declared.tree.Tree.TheVariants as t
 use Rattle.formula_code.specs.declared.node.Node.{Node}
 use Rattle.formula_code.specs.declared.node.Node.TheVariants.{Ref}
-use Rattle.formula_code.specs.Changes.{changed}
+use Rattle.calc_model.specs.Changes.{changed}
 use Rattle.formula_code.specs.Relative.{absolute_reference, relative, relative_reference}
 use Rattle.formula_code.specs.Staying.{StaysAfter}
 use Rattle.formula_code.specs.Tokens.{absolute_node, is_valid_node}
-use Rattle.formula_code.proofs.Replaced.{replaced-Ref}
+use Rattle.calc_model.proofs.Replaced.{replaced-Ref}
 use Rattle.formula_code.proofs.node.Node.stays.Goals as goal
 
 pub at-requires : goal.at-requires

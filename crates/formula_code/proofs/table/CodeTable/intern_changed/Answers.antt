@@ -4,12 +4,12 @@ use Rattle.calc_addr.specs.Places.{IsPlace}
 use Rattle.calc_model.specs.TreeShifts.{replaced}
 use Rattle.calc_model.specs.Formed.{is_formed}
 use Rattle.formula_code.specs.Building.{built}
-use Rattle.formula_code.specs.Changes.{changed}
+use Rattle.calc_model.specs.Changes.{changed}
 use Rattle.formula_code.specs.Codes.{Changes, Codes, IsInterned, form_at, tree_at, used_again}
 use Rattle.formula_code.specs.Relative.{relative}
 use Rattle.formula_code.proofs.TableLemmas.{interned}
 use Rattle.formula_code.proofs.Built.{built_whole, only_built}
-use Rattle.formula_code.proofs.ChangedTrees.{changed_is_formed}
+use Rattle.calc_model.proofs.FormedShifts.{changed_is_formed}
 use Rattle.formula_code.proofs.table.CodeTable.intern_changed.Goals as goal
 
 pub build-requires-clause-whole : goal.build-requires-clause-whole

@@ -1,13 +1,14 @@
 ghost use Rattle.std.specs.Prelude.{◌≡◌};
+ghost use Rattle.calc_model.specs.Changes.{IsChange, changed};
 ghost use Rattle.calc_model.specs.TreeShifts.{or_deleted};
-ghost use Rattle.formula_code.specs.Changes.{IsChange, changed};
 
+use crate::fault::Fault;
+use crate::tree::Tree;
 use calc_addr::{Cell, Ref, delete_row_ref, insert_row_ref, move_ref};
-use calc_model::{Fault, Tree};
 
 /// What becomes of a formula's references.
 #[derive(Clone, Copy)]
-pub(crate) enum Change {
+pub enum Change {
     Stays,
     /// The formula moves.
     Moves { cols: i32, rows: i32 },
@@ -19,7 +20,7 @@ pub(crate) enum Change {
 
 impl Change {
     /// What takes the place of a reference of the formula at `home`.
-    pub(crate) fn node(self, home: Cell, reference: Ref) -> Tree
+    pub fn node(self, home: Cell, reference: Ref) -> Tree
         requires { IsChange self }
         ensures { result ≡ changed self home reference }
     {
@@ -27,7 +28,7 @@ impl Change {
     }
 
     /// What becomes of a reference of the formula at `home`, or None where it is deleted.
-    pub(crate) fn reference(self, home: Cell, reference: Ref) -> Option<Ref>
+    pub fn reference(self, home: Cell, reference: Ref) -> Option<Ref>
         requires { IsChange self }
         ensures { or_deleted result ≡ changed self home reference }
     {

@@ -102,3 +102,5 @@ replaced_after first by both is = tree_ind (λ x. replaced by (replaced first x)
 -- a tree whose references are replaced twice
 pub replaced_twice : (g : Reference → Reference) (by : Reference → Tree) (x : Tree) → replaced by (replaced (λ r. t.Ref (g r)) x) ≡ replaced (λ r. by (g r)) x
 replaced_twice g by = replaced_after (λ r. t.Ref (g r)) by (λ r. by (g r)) (λ r. replaced-Ref by (g r))
+
+pub ruleset replacing = (replaced-Number, replaced-Words, replaced-Bad, replaced-Ref, replaced-Name, replaced-Call, replaced-Paren, replaced-Plus, replaced-Minus, replaced-Percent, replaced-Binary)

@@ -8,8 +8,8 @@ use Rattle.calc_addr.specs.Shifts.{reference_after_deletion, reference_after_ins
 use Rattle.calc_model.specs.declared.tree.Tree.{Tree}
 use Rattle.calc_model.specs.declared.tree.Tree.TheVariants.{Ref}
 use Rattle.calc_model.specs.TreeShifts.{on_sheet, or_deleted}
-use Rattle.formula_code.specs.declared.change.Change.{Change}
-use Rattle.formula_code.specs.declared.change.Change.TheVariants.{Stays, Moves, Inserted, Deleted}
+use Rattle.calc_model.specs.declared.change.Change.{Change}
+use Rattle.calc_model.specs.declared.change.Change.TheVariants.{Stays, Moves, Inserted, Deleted}
 
 -- the node in place of a reference of the formula at home
 abbrev pub changed : Change → Place → Reference → Tree
