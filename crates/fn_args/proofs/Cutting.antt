@@ -18,7 +18,7 @@ module _ (v : CellValues) (a : Rectangle) (p : Place) where
   unfolding column_values
   fits piece front = omega (arith, front.within, length-map (column_places p.sheet p.col p.row a.last_row) v, length-column p.sheet p.col p.row a.last_row)
 
-  cuts : (piece : Piece) → IsFront v (rows_below a p) piece → p.sheet ≡ a.sheet → IsCut (map v (places_from a (Some p))) piece (map v (drop (length (values_of piece)) (places_from a (Some p))))
+  pub cuts : (piece : Piece) → IsFront v (rows_below a p) piece → p.sheet ≡ a.sheet → IsCut (map v (places_from a (Some p))) piece (map v (drop (length (values_of piece)) (places_from a (Some p))))
   unfolding column_values
   cuts piece front same = record {
     some = front.some;

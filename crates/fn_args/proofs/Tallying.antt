@@ -21,56 +21,11 @@ use Rattle.calc_model.specs.declared.value.Value.{Value}
 use Rattle.calc_model.specs.declared.value.Value.TheVariants.{Number, Bad, Blank}
 use Rattle.calc_model.specs.Lists.{number_in_cell, number_of_scalar, numbers, numbers_in}
 use Rattle.calc_model.specs.Parameters.{all_ok, and_then}
+use Rattle.fn_args.proofs.FirstErrors.{after, after-after, after-none, all_ok-before, all_ok-error}
 use Rattle.fn_args.specs.Tallies.{IsTallied, numbers_in_cells, numbers_of_arg, numbers_of_args, MOST_IN_AREA}
 
 abbrev Numbers : Type 0
 Numbers = List (Result ℤ Fault)
-
-abbrev Same : Result (List ℤ) Fault → Result (List ℤ) Fault → Type 0
-Same r s = r ≡ s
-
-inside : {a b : List ℤ} → Same (Ok a) (Ok b) → a ≡ b
-inside e = cc
-
-apart : {a : List ℤ} {fault : Fault} → Same (Ok a) (Err fault) → ⊥
-apart e = cc
-
--- some numbers, and then the others or their first error
-abbrev pub after : List ℤ → Result (List ℤ) Fault → Result (List ℤ) Fault
-after ns (Ok ms) = Ok (ns ++ ms)
-after ns (Err fault) = Err fault
-
-after-none : (r : Result (List ℤ) Fault) → after [] r ≡ r
-after-none (Ok ms) = refl
-after-none (Err fault) = refl
-
-and_then-after : (n : ℤ) (ns : List ℤ) (r : Result (List ℤ) Fault) → and_then n (after ns r) ≡ after (n ∷ ns) r
-and_then-after n ns (Ok ms) = refl
-and_then-after n ns (Err fault) = refl
-
-after-after : (ns ms : List ℤ) (r : Result (List ℤ) Fault) → after ns (after ms r) ≡ after (ns ++ ms) r
-after-after ns ms (Ok ks) = ap Ok (sym (append_assoc ns ms ks))
-after-after ns ms (Err fault) = refl
-
-cut_off : (n : ℤ) (xs : Numbers) (fault : Fault) → and_then n (all_ok xs) ≡ Err fault → all_ok xs ≡ Err fault
-cut_off n xs fault e = elim (all_ok xs) as (λ r. and_then n r ≡ Err fault → r ≡ Err fault) [ Ok ns ↦ λ h. absurd (apart h) | Err f ↦ λ h. h ] e
-
-tail_of : (n : ℤ) (xs : Numbers) (ms : List ℤ) → and_then n (all_ok xs) ≡ Ok ms → (ns : List ℤ) × (all_ok xs ≡ Ok ns) × (ms ≡ n ∷ ns)
-tail_of n xs ms e = elim (all_ok xs) as (λ r. and_then n r ≡ Ok ms → (ns : List ℤ) × (r ≡ Ok ns) × (ms ≡ n ∷ ns)) [ Ok ns ↦ λ h. (ns, refl, sym (inside h)) | Err f ↦ λ h. absurd (apart (sym h)) ] e
-
--- numbers before others
-pub all_ok-before : (xs ys : Numbers) (ns : List ℤ) → all_ok xs ≡ Ok ns → all_ok (xs ++ ys) ≡ after ns (all_ok ys)
-all_ok-before [] ys ns e = sym (after-none (all_ok ys)) ∙ ap (λ ms. after ms (all_ok ys)) (inside e)
-all_ok-before (Ok n ∷ xs) ys ns e =
-    let t = tail_of n xs ns e in
-    ap (and_then n) (all_ok-before xs ys t.0 t.1) ∙ and_then-after n t.0 (all_ok ys) ∙ ap (λ ms. after ms (all_ok ys)) (sym t.2)
-all_ok-before (Err fault ∷ xs) ys ns e = absurd (apart (sym e))
-
--- an error before others is the first
-pub all_ok-error : (xs ys : Numbers) (fault : Fault) → all_ok xs ≡ Err fault → all_ok (xs ++ ys) ≡ Err fault
-all_ok-error [] ys fault e = absurd (apart e)
-all_ok-error (Ok n ∷ xs) ys fault e = ap (and_then n) (all_ok-error xs ys fault (cut_off n xs fault e))
-all_ok-error (Err f ∷ xs) ys fault e = e
 
 -- the numbers of cells that are all numbers, and of blank ones
 pub all_numbers : (ns : List ℤ) → all_ok (numbers_in_cells (map Number ns)) ≡ Ok ns

@@ -3,3 +3,5 @@ pub mod Pieces
 pub mod Lent
 pub mod Tallies
 pub mod Counts
+pub mod Pairs
+pub mod Picks

@@ -60,7 +60,7 @@ impl<'a, V: Values> Iterator for Pieces<'a, V> {
 }
 
 /// A piece of a column from one of the area's cells down.
-fn piece_at<V: Values>(values: &V, area: Area, cell: Cell) -> Piece<'_>
+pub(crate) fn piece_at<V: Values>(values: &V, area: Area, cell: Cell) -> Piece<'_>
     requires { covers area cell ≡ true }
     ensures { IsFront (V.values values.now) (rows_below area cell) result }
 {
@@ -68,7 +68,7 @@ fn piece_at<V: Values>(values: &V, area: Area, cell: Cell) -> Piece<'_>
 }
 
 /// The cell so many rows below one of the area's, or the top of the next column.
-fn behind(area: Area, cell: Cell, count: usize) -> Option<Cell>
+pub(crate) fn behind(area: Area, cell: Cell, count: usize) -> Option<Cell>
     requires covered { covers area cell ≡ true }
     requires within { count ≤ area.last_row + 1 - cell.row }
     ensures { IsBehind area cell count result }

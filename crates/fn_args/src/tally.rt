@@ -92,8 +92,8 @@ fn tally_area<V: Values, T: Tally>(area: Area, values: &V, taker: &mut T) -> Res
     Ok(())
 }
 
-/// Gives a tally the numbers of a piece.
-fn tally_piece<T: Tally>(piece: &Piece<'_>, taker: &mut T) -> Result<(), Fault>
+/// Gives a tally the numbers of a piece, up to the first error.
+pub(crate) fn tally_piece<T: Tally>(piece: &Piece<'_>, taker: &mut T) -> Result<(), Fault>
     requires { T.room taker.old (length (values_of piece.now)) }
     ensures { IsTallied T.step T.room (length (values_of piece.now)) taker.old
         (numbers_in_cells (values_of piece.now)) taker.new result }

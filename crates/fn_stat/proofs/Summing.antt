@@ -16,7 +16,7 @@ use Rattle.fn_stat.specs.States.{HasRoom, Totals, mean, with_term}
 pub room_behind : (s : Totals) (j k : ℕ) → HasRoom s (j + k) → HasRoom s k
 room_behind s j k h = omega (arith, h)
 
-total-of : (s : Totals) (ns : List ℤ) → (fold with_term s ns).total ≡ fold ◌+ℤ◌ s.total ns
+pub total-of : (s : Totals) (ns : List ℤ) → (fold with_term s ns).total ≡ fold ◌+ℤ◌ s.total ns
 total-of s [] = refl
 total-of s (n ∷ ns) = total-of (with_term s n) ns
 

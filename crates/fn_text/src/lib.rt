@@ -5,4 +5,4 @@ mod characters;
 mod joins;
 
 pub use characters::{fn_left, fn_len, fn_mid, fn_right};
-pub use joins::{fn_exact, fn_rept, fn_value};
+pub use joins::{fn_concatenate, fn_exact, fn_rept, fn_value};
