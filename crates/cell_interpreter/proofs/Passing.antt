@@ -1,6 +1,6 @@
 -- Parameters of a call that are taken from the stack one by one.
-use Rattle.std.proofs.Common.{◌≡◌, ℕ, ◌+◌, ◌-◌, List, [], ◌∷◌, ◌++◌, length, map, reverse, take, ap, append_assoc, arith, refl, sym, ◌∙◌, length-append}
-use Rattle.std.proofs.lemmas.List.{append-nil, length-map, map-append, reverse-append}
+use Rattle.std.proofs.Common.{◌≡◌, ℕ, ◌+◌, ◌-◌, List, [], ◌∷◌, ◌++◌, drop, length, map, reverse, take, ap, append_assoc, arith, refl, sym, ◌∙◌, length-append}
+use Rattle.std.proofs.lemmas.List.{append-nil, length-map, length-reverse, map-append, reverse-append}
 use Rattle.std.proofs.Math.Seq.{take-append_seam}
 use Rattle.calc_addr.specs.Places.{Place}
 use Rattle.calc_model.specs.Arguments.{meaning_of as meaning_of_arg}
@@ -53,3 +53,10 @@ all_passed old now args count passed =
       let m = meaning_of_arg home values in
       map_reversed m args
       ∙ ap reverse (sym (ap (take count) (sym (passed.means home values)) ∙ ap (λ n. take n (map m args ++ stacked home values now)) (sym (length-map args m ∙ passed.few)) ∙ take-append_seam (map m args) (stacked home values now))))
+
+-- what is reversed in place is the list reversed
+pub reversed_in_place : (args reversed : List Arg) → reversed ≡ reverse args → take (length args) (reversed ++ drop (length reversed) args) ≡ reverse args
+reversed_in_place args reversed e =
+    ap (λ n. take n (reversed ++ drop (length reversed) args)) (sym (ap length e ∙ length-reverse args))
+    ∙ take-append_seam reversed (drop (length reversed) args)
+    ∙ e

@@ -14,9 +14,10 @@ use fn_math::{
 };
 use fn_stat::{
     fn_average, fn_count, fn_counta, fn_countblank, fn_countif, fn_max, fn_min, fn_product, fn_sum,
+    fn_sumif,
 };
 use fn_text::{
-    fn_exact, fn_left, fn_len, fn_mid, fn_rept, fn_right, fn_value,
+    fn_concatenate, fn_exact, fn_find, fn_left, fn_len, fn_mid, fn_rept, fn_right, fn_value,
 };
 use std::alloc::Global;
 
@@ -86,10 +87,10 @@ fn apply<V: Values>(
         Function::Left => fn_left(alloc, args, home, values),
         Function::Right => fn_right(alloc, args, home, values),
         Function::Mid => fn_mid(alloc, args, home, values),
-        Function::Find => todo(alloc),
+        Function::Find => fn_find(alloc, args, home, values),
         Function::Rept => fn_rept(alloc, args, home, values),
         Function::Exact => fn_exact(alloc, args, home, values),
-        Function::Concatenate => todo(alloc),
+        Function::Concatenate => fn_concatenate(alloc, args, home, values),
         Function::Value => fn_value(alloc, args, home, values),
         Function::Sum => fn_sum(alloc, args, home, values),
         Function::Average => fn_average(alloc, args, home, values),
@@ -100,7 +101,7 @@ fn apply<V: Values>(
         Function::CountA => fn_counta(alloc, args, home, values),
         Function::CountBlank => fn_countblank(alloc, args, home, values),
         Function::CountIf => fn_countif(alloc, args, home, values),
-        Function::SumIf => todo(alloc),
+        Function::SumIf => fn_sumif(alloc, args, home, values),
         Function::Index => fn_index(alloc, args, home, values),
         Function::Match => fn_match(alloc, args, home, values),
         Function::VLookup => fn_vlookup(alloc, args, home, values),
@@ -111,8 +112,4 @@ fn apply<V: Values>(
         Function::Rows => fn_rows(alloc, args, home, values),
         Function::Columns => fn_columns(alloc, args, home, values),
     }
-}
-
-fn todo(_alloc: Global) -> Result<Value, NoMemory> {
-    Ok(Value::Bad(Fault::NA))
 }

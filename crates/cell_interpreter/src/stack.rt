@@ -152,8 +152,8 @@ impl<'a, const SIZE: usize> Stack<'a, SIZE> {
 
     /// Takes so many parameters from the top, and gives them from left to right.
     fn parameters(&mut self, alloc: Global, count: u8) -> Result<SmallVec<Arg, FEW_PARAMETERS>, NoMemory>
-        requires there { count ≤ array_vec_len self.old.operands }
-        ensures taken { IfOk result (λ args.
+        requires { count ≤ array_vec_len self.old.operands }
+        ensures { IfOk result (λ args.
             TakesArgs count self.old.operands.items self.new.operands.items args.items) }
     {
         let mut args = SmallVec::new(alloc);

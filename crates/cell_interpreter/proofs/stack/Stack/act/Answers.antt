@@ -106,14 +106,14 @@ returns-in-Name-clause-acted g c =
     subst (λ t. Acts home names values (lent t) old c.push-in-Name.new.self.items) (sym c.in-Name.is)
     (pushes home names values (node.Name c.in-Name.name.now) old _ c.of_name.result c.push-in-Name.ensures.items (λ stack. ap (λ meaning. Some (meaning ∷ stack)) (sym (c.of_name.ensures home values))))
 
-pub returns-in-Call-clause-acted : goal.returns-in-Call-clause-acted
-returns-in-Call-clause-acted g c =
+pub returns-in_ok-call-in-Call-clause-acted : goal.returns-in_ok-call-in-Call-clause-acted
+returns-in_ok-call-in-Call-clause-acted g c =
     let home = c.args.home in
     let values = g.V.Values.values c.args.values.now in
     let names = entry_named (g.N.NameTable.entries c.args.names.now) in
     let old = c.args.self.now.operands.items in
     subst (λ t. Acts home names values (lent t) old c.call.new.self.operands.items) (sym c.in-Call.is)
-    (calls home names values c.in-Call.name.now c.in-Call.args old _ (needs_args home names values c.in-Call.name.now c.in-Call.args old (subst (λ t. CanAct home names values (lent t) old) c.in-Call.is c.requires.there)) c.call.ensures.called)
+    (calls home names values c.in-Call.name.now c.in-Call.args old _ (needs_args home names values c.in-Call.name.now c.in-Call.args old (subst (λ t. CanAct home names values (lent t) old) c.in-Call.is c.requires.there)) c.in_ok-call-in-Call.ensures.called)
 
 pub returns-in-Plus-clause-acted : goal.returns-in-Plus-clause-acted
 returns-in-Plus-clause-acted g c =
