@@ -2,3 +2,4 @@
 pub mod Repeating
 pub mod Splitting
 pub mod Joining
+pub mod Occurring

@@ -29,14 +29,14 @@ pub fn fn_len<V: Values>(
 }
 
 /// How many characters a text has.
-fn char_count(text: &str) -> usize
+pub(crate) fn char_count(text: &str) -> usize
     ensures { result ≡ length (chars text.now) }
 {
     text.chars().count()
 }
 
 /// What stands behind the first characters of a text, so many or all.
-fn behind(text: &str, count: usize) -> &str
+pub(crate) fn behind(text: &str, count: usize) -> &str
     ensures { IsLeft text.now count result.now }
 {
     let mut rest = text;
