@@ -7,7 +7,7 @@ use Rattle.calc_model.specs.Arguments.{meaning_of as meaning_of_arg}
 use Rattle.calc_model.specs.Scalars.{CellValues}
 use Rattle.calc_model.specs.declared.arg.Arg.{Arg}
 use Rattle.cell_interpreter.specs.declared.operand.Operand.{Operand}
-use Rattle.cell_interpreter.specs.Machine.{IsPassedAs, TakesArgs, meaning_of, stacked}
+use Rattle.cell_interpreter.specs.Machine.{IsPassedAs, TakesArgs, stacked}
 use Rattle.cell_interpreter.proofs.Stacks.{stacked-push}
 
 -- so many operands were taken from the top of the stack, the top first, and these are the parameters that they are
@@ -47,12 +47,13 @@ map_reversed f (x ∷ xs) =
 
 -- all of them, which are reversed
 pub all_passed : (old now : List Operand) (args : List Arg) (count : ℕ) → Passed old now args count → TakesArgs count old now (reverse args)
-all_passed old now args count passed =
-    (sym (ap (λ os. take (length os - count) os) passed.split ∙ ap (λ n. take n (now ++ passed.taken)) (omega (arith, length-append now passed.taken, passed.size)) ∙ take-append_seam now passed.taken),
-    λ home values.
+all_passed old now args count passed = (
+  sym (ap (λ os. take (length os - count) os) passed.split ∙ ap (λ n. take n (now ++ passed.taken)) (omega (arith, length-append now passed.taken, passed.size)) ∙ take-append_seam now passed.taken),
+  λ home values.
       let m = meaning_of_arg home values in
       map_reversed m args
-      ∙ ap reverse (sym (ap (take count) (sym (passed.means home values)) ∙ ap (λ n. take n (map m args ++ stacked home values now)) (sym (length-map args m ∙ passed.few)) ∙ take-append_seam (map m args) (stacked home values now))))
+      ∙ ap reverse (sym (ap (take count) (sym (passed.means home values)) ∙ ap (λ n. take n (map m args ++ stacked home values now)) (sym (length-map args m ∙ passed.few)) ∙ take-append_seam (map m args) (stacked home values now))),
+)
 
 -- what is reversed in place is the list reversed
 pub reversed_in_place : (args reversed : List Arg) → reversed ≡ reverse args → take (length args) (reversed ++ drop (length reversed) args) ≡ reverse args

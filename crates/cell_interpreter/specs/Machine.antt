@@ -18,7 +18,6 @@ use Rattle.formula_code.specs.declared.node.Node.TheVariants as node
 use Rattle.cell_interpreter.specs.declared.operand.Operand.{Operand}
 use Rattle.cell_interpreter.specs.declared.operand.Operand.TheVariants as operand
 use Rattle.cell_interpreter.specs.declared.scalar.Scalar.{Scalar}
-use Rattle.cell_interpreter.specs.declared.scalar.Scalar.TheVariants as scalar
 use Rattle.cell_interpreter.specs.Operands.{value_of}
 
 abbrev pub Meanings : Type 0

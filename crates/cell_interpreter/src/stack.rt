@@ -151,7 +151,11 @@ impl<'a, const SIZE: usize> Stack<'a, SIZE> {
     }
 
     /// Takes so many parameters from the top, and gives them from left to right.
-    fn parameters(&mut self, alloc: Global, count: u8) -> Result<SmallVec<Arg, FEW_PARAMETERS>, NoMemory>
+    fn parameters(
+        &mut self,
+        alloc: Global,
+        count: u8,
+    ) -> Result<SmallVec<Arg, FEW_PARAMETERS>, NoMemory>
         requires { count ≤ array_vec_len self.old.operands }
         ensures { IfOk result (λ args.
             TakesArgs count self.old.operands.items self.new.operands.items args.items) }

@@ -1,4 +1,4 @@
-use Rattle.std.proofs.Common.{rules, ◌≡◌, ◌∙◌, ap, arith, map, reverse, subst, sym}
+use Rattle.std.proofs.Common.{◌≡◌, ◌∙◌, ap, arith, map, reverse, subst}
 use Rattle.calc_model.specs.Arguments.{meaning_of as meaning_of_arg}
 use Rattle.cell_interpreter.proofs.Passing.{Passed, all_passed, one_passed, reversed_in_place}
 use Rattle.cell_interpreter.proofs.stack.Stack.parameters.Goals as goal
