@@ -8,3 +8,6 @@ mod Kept
 mod Columns
 -- emptying an area cell by cell
 mod Emptying
+pub mod AreaColumns
+pub mod Inserted
+pub mod Copied

@@ -1,8 +1,9 @@
 -- The first cell of a map that passes a test.
-use Rattle.std.specs.Prelude.{◌≡◌, ℕ, ◌==◌, ◌&&◌, nat_le, true, Option, None, IsSome}
+use Rattle.std.specs.Prelude.{◌≡◌, ℕ, ◌==◌, ◌&&◌, nat_le, true, List, map, Option, None, IsSome}
 use Rattle.std.specs.Ordering.{is_le, is_lt}
 use Rattle.calc_addr.specs.Places.{Place, Rectangle, covers, place_cmp}
 use Rattle.calc_model.specs.declared.content.Content.{Content}
+use Rattle.calc_model.specs.CellEdits.{CellEntries, moved_content}
 use Rattle.calc_model.specs.Touched.{CellSet}
 
 -- the area has the cell, and it isn't before that one
@@ -22,3 +23,11 @@ pub record IsFirst (test : CellSet) (held : Place → Option Content) (cell : Pl
 -- the map has no cell that passes the test
 abbrev pub IsNone : CellSet → (Place → Option Content) → Type 0
 IsNone test held = (q : Place) → test q ≡ true → held q ≡ None
+
+-- one column of a rectangle
+abbrev pub column_at : Rectangle → ℕ → Rectangle
+column_at area col = record area { first_col = col; last_col = col }
+
+-- a content, moved from a cell, in some cells
+abbrev pub moved_entries : Place → Content → List Place → CellEntries
+moved_entries from content cells = map (λ q. (q, moved_content from q content)) cells

@@ -1,10 +1,14 @@
-ghost use Rattle.std.specs.Prelude.{◌≡◌, ◌≤◌, ◌↔◌, nat_le, [], true, length, unwrap_or, IsTrue, OnOk, OnErr};
-ghost use Rattle.std.specs.List.{All};
+ghost use Rattle.std.specs.Prelude.{◌≡◌, ◌≤◌, ◌+◌, ◌↔◌, nat_le, [], true, length, unwrap_or, IfOk, IsTrue, OnOk, OnErr};
+ghost use Rattle.std.specs.List.{All, list_all};
 ghost use Rattle.std.specs.Option.{option_copied};
 ghost use Rattle.calc_model.specs.Books.{IsBook, content_at, formula_count, is_content, is_held, is_place, with_content};
-ghost use Rattle.calc_model.specs.CellEdits.{without_area};
+ghost use Rattle.calc_addr.specs.Places.{places};
+ghost use Rattle.calc_addr.specs.ValidReferences.{is_rectangle};
+ghost use Rattle.calc_model.specs.CellEdits.{after_copy, after_fill, area_at, with_entries, without_area};
+ghost use Rattle.cell_map.specs.Runs.{moved_entries};
 ghost use Rattle.calc_model.specs.Step.{is_edit};
 
+use crate::copies::{area_at, copied_entries, count_within};
 use crate::runs::remove_area;
 use calc_addr::{Area, Cell, NoMemory};
 use calc_model::{Content, Edit, Looked, MOST_CELLS, NameTable};
@@ -103,6 +107,121 @@ impl CellMap {
         ensures book { IsBook self.new }
     {
         remove_area(&mut self.cells, area);
+    }
+
+    /// Whether the contents of an area fit into the equal places of the area that begins at `to`: there
+    /// would be no more cells than a book may have. The cost is that of a copy.
+    pub fn has_room_to_copy(&self, area: Area, to: Cell) -> bool
+        requires { is_rectangle (area_at area to) ≡ true }
+        ensures { result ≡ nat_le (length (after_copy self.now.cells area to)) MOST_CELLS }
+    {
+        let left = self.cells.len() - count_within(&self.cells, area_at(area, to));
+        left + count_within(&self.cells, area) <= MOST_CELLS
+    }
+
+    /// Copies the contents of an area, moved, to the equal places of the area that begins at `to`. It takes
+    /// the logarithm of the map for each column and each content, and is linear in the contents. Where
+    /// memory is refused, some places may be empty.
+    pub fn copy(&mut self, alloc: Global, area: Area, to: Cell) -> Result<(), NoMemory>
+        requires place { is_rectangle (area_at area to) ≡ true }
+        requires room { length (after_copy self.old.cells area to) ≤ MOST_CELLS }
+        ensures cells { OnOk result (self.new.cells ≡ after_copy self.old.cells area to) }
+        ensures names { self.new.names ≡ self.old.names }
+        ensures book { IsBook self.new }
+    {
+        let entries = copied_entries(alloc, &self.cells, area, to)?;
+        self.clear(area_at(area, to));
+        self.put_all(entries)
+    }
+
+    /// Puts contents that aren't empty into cells, one after the other.
+    fn put_all(&mut self, entries: Vec<(Cell, Content)>) -> Result<(), NoMemory>
+        requires book { IsBook self.old }
+        requires held { list_all (λ entry. is_held entry.1) entries.items ≡ true }
+        requires room { length self.old.cells + length entries.items ≤ MOST_CELLS }
+        ensures cells { OnOk result
+            (self.new.cells ≡ with_entries self.old.cells entries.items) }
+        ensures names { self.new.names ≡ self.old.names }
+        ensures book { IsBook self.new }
+    {
+        for (cell, content) in entries {
+            self.set(cell, content)?;
+        }
+        Ok(())
+    }
+
+    /// Whether the content of a cell fits into each cell of an area: there would be no more cells than a
+    /// book may have. The cost is that of `has_room_to_copy`.
+    pub fn has_room_to_fill(&self, from: Cell, area: Area) -> bool
+        ensures { result ≡ nat_le
+            (length (after_fill self.now.cells from (content_at self.now from) area)) MOST_CELLS }
+    {
+        let left = self.cells.len() - count_within(&self.cells, area);
+        if !self.is_held(from) {
+            return true;
+        }
+        left as u64 + area.cell_count() <= MOST_CELLS as u64
+    }
+
+    /// Whether the cell isn't empty.
+    fn is_held(&self, cell: Cell) -> bool
+        ensures { result ≡ is_held (content_at self.now cell) }
+    {
+        match self.get(cell) {
+            Some(content) => content.is_held(),
+            None => false,
+        }
+    }
+
+    /// Fills each cell of an area with the content of a cell, moved. It takes the logarithm of the map for
+    /// each cell, and is linear in the contents. Where memory is refused, some of the cells may be empty.
+    pub fn fill(&mut self, alloc: Global, from: Cell, area: Area) -> Result<(), NoMemory>
+        requires { length (after_fill self.old.cells from (content_at self.old from) area)
+            ≤ MOST_CELLS }
+        ensures cells { OnOk result (self.new.cells
+            ≡ after_fill self.old.cells from (content_at self.old from) area) }
+        ensures names { self.new.names ≡ self.old.names }
+        ensures book { IsBook self.new }
+    {
+        let content = self.copy_of(alloc, from)?;
+        self.clear(area);
+        if !content.is_held() {
+            return Ok(());
+        }
+        self.put_moved(alloc, from, &content, area)
+    }
+
+    /// A copy of what the cell holds.
+    fn copy_of(&self, alloc: Global, cell: Cell) -> Result<Content, NoMemory>
+        ensures content { IfOk result (λ content. content ≡ content_at self.now cell) }
+        ensures book { IsBook self.now }
+    {
+        match self.get(cell) {
+            Some(content) => content.copy(alloc),
+            None => Ok(Content::Empty),
+        }
+    }
+
+    /// Puts a content that isn't empty, moved, into each cell of an area.
+    fn put_moved(
+        &mut self,
+        alloc: Global,
+        from: Cell,
+        content: &Content,
+        area: Area,
+    ) -> Result<(), NoMemory>
+        requires book { IsBook self.old }
+        requires held { is_held content.now ≡ true }
+        requires room { length self.old.cells + length (places area) ≤ MOST_CELLS }
+        ensures cells { OnOk result (self.new.cells
+            ≡ with_entries self.old.cells (moved_entries from content.now (places area))) }
+        ensures names { self.new.names ≡ self.old.names }
+        ensures book { IsBook self.new }
+    {
+        for cell in area.cells() {
+            self.set(cell, content.moved(alloc, from, cell)?)?;
+        }
+        Ok(())
     }
 
     /// How many cells hold a formula. Linear in the cells.

@@ -4,6 +4,7 @@
 #![tactic(auto)]
 
 mod cells;
+mod copies;
 mod results;
 mod runs;
 mod show;
