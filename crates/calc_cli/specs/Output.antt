@@ -9,7 +9,7 @@ use Rattle.std.specs.Fmt.{decimal}
 use Rattle.calc_model.specs.Books.{Book}
 use Rattle.calc_model.specs.Touched.{CellSet}
 use Rattle.calc_model.specs.Stale.{count_in, is_formula_cell, stale_after}
-use Rattle.calc_model.specs.Step.{step}
+use Rattle.calc_model.specs.Step.{built_step}
 use Rattle.calc_model.specs.Val.{val}
 use Rattle.calc_model.specs.declared.content.Content.{Content}
 use Rattle.calc_model.specs.declared.edit.Edit.{Edit}
@@ -61,7 +61,7 @@ abbrev pub recalculation : Session → List ℕ
 recalculation session = codes "recalculated " ++ decimal (count_in session.book session.stale) ++ codes "\n"
 
 abbrev pub done : Session → ℕ → Command → Answer
-done session number (commands.Edit edit) = edited session number edit (step session.book edit)
+done session number (commands.Edit edit) = edited session number edit (built_step session.book edit)
 done session number commands.Calc = accepted (recalculated session) (recalculation session)
 done session number (commands.Print area) = accepted (recalculated session) (printed_area (shown_texts (val session.book)) area)
 done session number (commands.Formulas area) = accepted session (printed_area (held_texts session.book) area)

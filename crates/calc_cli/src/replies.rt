@@ -1,6 +1,6 @@
 //! What lines of a script do to a workbook, and what they write.
 ghost use Rattle.std.specs.Prelude.{◌≡◌, IfOk, false, true};
-ghost use Rattle.calc_model.specs.Step.{step};
+ghost use Rattle.calc_model.specs.Step.{built_step};
 ghost use Rattle.calc_cli.specs.Output.{accepted, answer, done, edited, recalculated, recalculation, refusal_text};
 ghost use Rattle.calc_cli.specs.Records.{held_texts, printed_area, shown_texts};
 ghost use Rattle.calc_cli.specs.Sessions.{Replies, session_of};
@@ -64,7 +64,7 @@ fn make_edit(
     edit: &Edit,
 ) -> Result<Reply, NoMemory>
     ensures { Replies result (session_of workbook.new) (edited (session_of workbook.old) number
-        edit.now (step (session_of workbook.old).book edit.now)) }
+        edit.now (built_step (session_of workbook.old).book edit.now)) }
 {
     match workbook.edit(alloc, edit) {
         Ok(()) => Ok(accept(Vec::new(alloc))),

@@ -1,9 +1,11 @@
--- Trees: TreeFolds, TreeInduction, GrammarLevels. Areas and places: Areas, Places. PrintedAscii: numbers print in ASCII.
+-- Trees: TreeFolds, TreeInduction, Replaced (other trees in place of references), GrammarLevels. Areas and places: Areas, Places. PrintedAscii: numbers print in ASCII.
 -- What cells show: EvalSame (a formula depends on what it reads), Rounds, Shown, Pigeonhole (rounds that come to an
 -- end), Knowing, Readiness (results found in any order).
 -- Edits: BooksKept (a book stays one), EntriesKept, CapitalText, CapitalNames, NamesKept (so do its names), Reached (which cells reach which). Worked examples: the files that end so.
 pub mod TreeFolds
 pub mod TreeInduction
+pub mod Replaced
+pub mod FormedShifts
 pub mod Areas
 pub mod EvalSame
 pub mod Rounds
@@ -15,12 +17,17 @@ pub mod Pigeonhole
 pub mod Readiness
 mod ShownExamples
 mod StepExamples
+mod EditExamples
+mod TouchedExamples
 mod StaleExamples
 mod OperatorExamples
 pub mod Reached
 pub mod BooksKept
 pub mod GrammarLevels
 pub mod EntriesKept
+pub mod EntriesMoved
+pub mod RowsKept
+pub mod ShiftedReads
 pub mod CapitalText
 pub mod CapitalNames
 pub mod NamesKept

@@ -11,22 +11,22 @@ use Rattle.calc_model.specs.declared.edit.EditCause.TheVariants.{CellsFull}
 use Rattle.calc_model.specs.declared.limits.TheConstants.{MOST_CELLS}
 use Rattle.calc_model.specs.Step.{if_cells_fit, step}
 
-abbrev at : ℕ → ℕ → Place
+abbrev pub at : ℕ → ℕ → Place
 at col row = record { sheet = 0; col = col; row = row }
 
-abbrev whole : ℕ → Content
+abbrev pub whole : ℕ → Content
 whole n = Constant (Number (pos (n * 10 ^ 9)))
 
-abbrev book_of : List (Place × Content) → Book
+abbrev pub book_of : List (Place × Content) → Book
 book_of cells = record { cells = cells; names = [] }
 
 -- the cells of some columns and rows of a sheet
-abbrev area : ℕ → ℕ → ℕ → ℕ → ℕ → Rectangle
+abbrev pub area : ℕ → ℕ → ℕ → ℕ → ℕ → Rectangle
 area sheet first_col last_col first_row last_row =
     record { sheet = sheet; first_col = first_col; last_col = last_col; first_row = first_row; last_row = last_row }
 
 -- A1 is 1, B1 is 2, B3 is 3
-abbrev three_cells : Book
+abbrev pub three_cells : Book
 three_cells = book_of ((at 1 1, whole 1) ∷ (at 2 1, whole 2) ∷ (at 2 3, whole 3) ∷ [])
 
 a_set_of_a_new_cell_adds_it_at_its_place : step three_cells (Set (at 2 2) (whole 9)) ≡ Ok (book_of ((at 1 1, whole 1) ∷ (at 2 1, whole 2) ∷ (at 2 2, whole 9) ∷ (at 2 3, whole 3) ∷ []))

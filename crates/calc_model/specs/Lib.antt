@@ -27,6 +27,10 @@ pub mod Formed
 pub mod Printed
 pub mod Field
 pub mod OverFields
+pub mod Homes
+pub mod CellEdits
+pub mod RowEdits
+pub mod UsedNames
 pub mod Step
 pub mod Touched
 pub mod Stale

@@ -30,7 +30,10 @@ pub use ear::Ear;
 pub use edit::{Edit, EditCause};
 pub use fault::Fault;
 pub use identifier::{begins_identifier, is_identifier, is_in_identifier, is_name, is_utf8};
-pub use laws::{edits_keep_books, fixed_point, rounds_reach_all};
+pub use laws::{
+    edits_keep_books, fixed_point, formulas_stay_formed, rounds_reach_all,
+    rows_change_their_readers,
+};
 pub use limits::{
     MOST_CELLS, MOST_FIELD_BYTES, MOST_FORMULA_BYTES, MOST_NAMES, MOST_OPEN, MOST_PARAMETERS,
     MOST_TOKENS,

@@ -7,7 +7,7 @@ use Rattle.std.specs.BTreeMap.{is_at}
 use Rattle.std.specs.Ordering.{is_le, is_lt}
 use Rattle.calc_addr.specs.Places.{Place, Rectangle, covers, place_cmp}
 use Rattle.calc_model.specs.declared.content.Content.{Content}
-use Rattle.calc_model.specs.Step.{without_area}
+use Rattle.calc_model.specs.CellEdits.{without_area}
 use Rattle.calc_model.proofs.Places.{same_places}
 use Rattle.calc_model.proofs.Reached.{same_cell}
 use Rattle.cell_map.specs.Runs.{IsFirst, IsNone, is_ahead}

@@ -8,7 +8,8 @@ use Rattle.calc_model.specs.declared.content.Content.{Content}
 use Rattle.calc_model.specs.declared.edit.Edit.TheVariants.{Clear, Set}
 use Rattle.calc_model.specs.declared.edit.EditCause.TheVariants.{CellsFull}
 use Rattle.calc_model.specs.Books.{Book, IsBook, with_content}
-use Rattle.calc_model.specs.Step.{is_edit, without_area}
+use Rattle.calc_model.specs.CellEdits.{without_area}
+use Rattle.calc_model.specs.Step.{is_edit}
 use Rattle.calc_model.proofs.BooksKept.{keeps_books}
 
 abbrev pub with_cells : List (Place × Content) → Book

@@ -2,7 +2,8 @@ ghost use Rattle.std.specs.Prelude.{◌≡◌, ◌≤◌, ◌↔◌, nat_le, [],
 ghost use Rattle.std.specs.List.{All};
 ghost use Rattle.std.specs.Option.{option_copied};
 ghost use Rattle.calc_model.specs.Books.{IsBook, content_at, formula_count, is_content, is_held, is_place, with_content};
-ghost use Rattle.calc_model.specs.Step.{is_edit, without_area};
+ghost use Rattle.calc_model.specs.CellEdits.{without_area};
+ghost use Rattle.calc_model.specs.Step.{is_edit};
 
 use crate::runs::remove_area;
 use calc_addr::{Area, Cell, NoMemory};

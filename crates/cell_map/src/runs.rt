@@ -2,7 +2,7 @@ ghost use Rattle.std.specs.Prelude.{◌≡◌, ◌<◌, ◌≤◌, true, length,
 ghost use Rattle.std.specs.BTreeMap.{get, is_at};
 ghost use Rattle.std.specs.Map.{remove_entry};
 ghost use Rattle.calc_addr.specs.Places.{Place, covers, place_cmp};
-ghost use Rattle.calc_model.specs.Step.{without_area};
+ghost use Rattle.calc_model.specs.CellEdits.{without_area};
 ghost use Rattle.cell_map.specs.Runs.{IsFirst, IsNone, is_ahead, is_in_run};
 
 use calc_addr::{Area, Cell};

@@ -27,7 +27,7 @@ use Rattle.formula_code.specs.Kept.{without_references}
 use Rattle.formula_code.specs.Nodes.{postfix}
 use Rattle.formula_code.specs.Tokens.{is_valid_node}
 use Rattle.formula_code.proofs.FormedTrees.{formed_parts, valid_behind}
-use Rattle.formula_code.proofs.Replaced.{replaced-Number, replaced-Words, replaced-Bad, replaced-Ref, replaced-Name, replaced-Call, replaced-Paren, replaced-Plus, replaced-Minus, replaced-Percent, replaced-Binary, replaced_after}
+use Rattle.calc_model.proofs.Replaced.{replaced-Number, replaced-Words, replaced-Bad, replaced-Ref, replaced-Name, replaced-Call, replaced-Paren, replaced-Plus, replaced-Minus, replaced-Percent, replaced-Binary, replaced_after}
 use Rattle.formula_code.proofs.NodeLists.{postfix-Bad, postfix-Ref, postfix-Call, postfix-Paren, postfix-Plus, postfix-Minus, postfix-Percent, postfix-Binary}
 
 -- a reference goes to a valid one, or to a deleted one

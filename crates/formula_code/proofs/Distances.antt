@@ -4,7 +4,7 @@ use Rattle.calc_addr.specs.Places.{Place, IsPlace}
 use Rattle.calc_addr.specs.References.{Reference}
 use Rattle.calc_model.specs.declared.tree.Tree.{Tree}
 use Rattle.calc_model.specs.declared.tree.Tree.TheVariants as t
-use Rattle.formula_code.proofs.Replaced.{replaced_same, replaced_twice}
+use Rattle.calc_model.proofs.Replaced.{replaced_same, replaced_twice}
 use Rattle.formula_code.specs.Relative.{absolute, relative, to_distance, from_distance, relative_reference, absolute_reference}
 
 back : (moves : Bool) (last home at : ℕ) → home ≤ last → from_distance moves last home (to_distance moves last home at) ≡ at

@@ -8,7 +8,7 @@ use Rattle.calc_model.proofs.TreeFolds.{at-Number, at-Words, at-Bad, at-Ref, at-
 use Rattle.calc_model.proofs.TreeInduction.{tree_ind}
 use Rattle.formula_code.specs.Digests.{digest_at, digest_step, form_digest, reference_digest}
 use Rattle.formula_code.specs.Relative.{relative, relative_reference}
-use Rattle.formula_code.proofs.Replaced.{replaced-Number, replaced-Words, replaced-Bad, replaced-Ref, replaced-Name, replaced-Call, replaced-Paren, replaced-Plus, replaced-Minus, replaced-Percent, replaced-Binary, map_known}
+use Rattle.calc_model.proofs.Replaced.{replaced-Number, replaced-Words, replaced-Bad, replaced-Ref, replaced-Name, replaced-Call, replaced-Paren, replaced-Plus, replaced-Minus, replaced-Percent, replaced-Binary, map_known}
 
 module _ (home : Place) where
   abbrev tree_step : Tree-F ℕ → ℕ

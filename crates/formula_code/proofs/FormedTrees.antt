@@ -20,7 +20,7 @@ use Rattle.formula_code.specs.Kept.{without_references}
 use Rattle.formula_code.specs.declared.node.Node.{Node}
 use Rattle.formula_code.specs.Nodes.{postfix}
 use Rattle.formula_code.specs.Tokens.{is_valid_node}
-use Rattle.formula_code.proofs.Replaced.{replaced-Number, replaced-Words, replaced-Bad, replaced-Ref, replaced-Name, replaced-Call, replaced-Paren, replaced-Plus, replaced-Minus, replaced-Percent, replaced-Binary, map_known}
+use Rattle.calc_model.proofs.Replaced.{replaced-Number, replaced-Words, replaced-Bad, replaced-Ref, replaced-Name, replaced-Call, replaced-Paren, replaced-Plus, replaced-Minus, replaced-Percent, replaced-Binary, map_known}
 use Rattle.formula_code.proofs.NodeLists.{postfix-Number, postfix-Words, postfix-Bad, postfix-Ref, postfix-Name, postfix-Call, postfix-Paren, postfix-Plus, postfix-Minus, postfix-Percent, postfix-Binary}
 
 -- the counts of a tree don't look at its references

@@ -20,7 +20,7 @@ use Rattle.formula_code.specs.Tokens.{are_tokens, is_short_node, is_token, is_va
 use Rattle.formula_code.proofs.CountedNodes.{counted}
 use Rattle.formula_code.proofs.FormedTrees.{counts_same, formed_parts}
 use Rattle.formula_code.proofs.NodeLists.{nodes_replaced}
-use Rattle.formula_code.proofs.Replaced.{replaced_twice}
+use Rattle.calc_model.proofs.Replaced.{replaced_twice}
 
 -- without references, a relative or absolute form is the tree without references
 pub without_changed : (g : Reference → Reference) (x : Tree) → without_references (replaced (λ r. t.Ref (g r)) x) ≡ without_references x

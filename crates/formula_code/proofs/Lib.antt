@@ -1,6 +1,5 @@
--- Replaced: trees with other trees in place of references. Distances: a relative reference at its cell is the reference.
+-- Distances: a relative reference at its cell is the reference.
 -- NodeLists: the nodes of trees. Building: nodes build their tree.
-pub mod Replaced
 pub mod Distances
 pub mod NodeLists
 pub mod Built

@@ -18,7 +18,7 @@ use Rattle.formula_code.specs.Building.{relative_nodes}
 use Rattle.formula_code.specs.Nodes.{postfix, postfix_step}
 use Rattle.formula_code.specs.Relative.{relative, relative_reference}
 use Rattle.formula_code.specs.Tokens.{node_with}
-use Rattle.formula_code.proofs.Replaced.{replaced-Number, replaced-Words, replaced-Bad, replaced-Ref, replaced-Name, replaced-Call, replaced-Paren, replaced-Plus, replaced-Minus, replaced-Percent, replaced-Binary}
+use Rattle.calc_model.proofs.Replaced.{replaced-Number, replaced-Words, replaced-Bad, replaced-Ref, replaced-Name, replaced-Call, replaced-Paren, replaced-Plus, replaced-Minus, replaced-Percent, replaced-Binary}
 
 -- the nodes at each kind of node
 pub postfix-Number : (n : ℤ) → postfix (t.Number n) ≡ Number n ∷ []

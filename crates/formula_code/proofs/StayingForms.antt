@@ -14,7 +14,7 @@ use Rattle.formula_code.specs.Nodes.{postfix}
 use Rattle.formula_code.specs.Relative.{absolute, absolute_reference, relative, relative_reference}
 use Rattle.formula_code.specs.Staying.{StaysAfter, StaysBy, form_after}
 use Rattle.formula_code.proofs.NodeLists.{postfix-Ref, postfix-Call, postfix-Paren, postfix-Plus, postfix-Minus, postfix-Percent, postfix-Binary}
-use Rattle.formula_code.proofs.Replaced.{replaced-Number, replaced-Words, replaced-Bad, replaced-Ref, replaced-Name, replaced-Call, replaced-Paren, replaced-Plus, replaced-Minus, replaced-Percent, replaced-Binary, replaced_after, replaced_twice}
+use Rattle.calc_model.proofs.Replaced.{replaced-Number, replaced-Words, replaced-Bad, replaced-Ref, replaced-Name, replaced-Call, replaced-Paren, replaced-Plus, replaced-Minus, replaced-Percent, replaced-Binary, replaced_after, replaced_twice}
 
 front : (P : Node → Type 0) (xs ys : List Node) → AllByRecursion P (xs ++ ys) → AllByRecursion P xs
 front P [] ys all = tt

@@ -1,22 +1,8 @@
--- Where the cell of a formula goes, and how far it moves.
-use Rattle.std.specs.Prelude.{◌≡◌, ◌≤◌, ◌+◌, ℕ, ℤ, pos, ◌-ℤ◌, ◌==◌, false, if◌then◌else◌}
+-- Where the cell of a formula stays in the sheet, and the cells below it.
+use Rattle.std.specs.Prelude.{◌≡◌, ◌≤◌, ◌+◌, ℕ, false}
 use Rattle.calc_addr.specs.declared.cell.TheConstants.{LAST_ROW}
 use Rattle.calc_addr.specs.Places.{Place}
-use Rattle.calc_addr.specs.Shifts.{is_deleted, place_after_deletion, place_after_insertion, row_after_insertion}
-
-abbrev pub cols_between : Place → Place → ℤ
-cols_between from to = pos to.col -ℤ pos from.col
-
-abbrev pub rows_between : Place → Place → ℤ
-rows_between from to = pos to.row -ℤ pos from.row
-
--- rows of a sheet are inserted
-abbrev pub home_after_insertion : ℕ → ℕ → ℕ → Place → Place
-home_after_insertion sheet place count home = if home.sheet == sheet then place_after_insertion place count home else home
-
--- rows of a sheet are deleted
-abbrev pub home_after_deletion : ℕ → ℕ → ℕ → Place → Place
-home_after_deletion sheet place count home = if home.sheet == sheet then place_after_deletion place count home else home
+use Rattle.calc_addr.specs.Shifts.{is_deleted, row_after_insertion}
 
 -- the cell isn't pushed past the last row
 abbrev pub StaysInserted : ℕ → ℕ → ℕ → Place → Type 0

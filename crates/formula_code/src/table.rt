@@ -5,7 +5,8 @@ ghost use Rattle.calc_model.specs.TreeShifts.{moved_tree, replaced, tree_after_d
 ghost use Rattle.formula_code.specs.Changes.{IsChange, IsShift, changed};
 ghost use Rattle.formula_code.specs.Digests.{digest_at};
 ghost use Rattle.formula_code.specs.Ears.{ears};
-ghost use Rattle.formula_code.specs.Homes.{StaysDeleted, StaysInserted, cols_between, home_after_deletion, home_after_insertion, rows_between};
+ghost use Rattle.calc_model.specs.Homes.{cols_between, home_after_deletion, home_after_insertion, rows_between};
+ghost use Rattle.formula_code.specs.Homes.{StaysDeleted, StaysInserted};
 ghost use Rattle.formula_code.specs.Names.{UsesName};
 ghost use Rattle.formula_code.specs.Nodes.{postfix};
 ghost use Rattle.formula_code.specs.Relative.{relative};

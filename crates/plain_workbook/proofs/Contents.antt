@@ -11,7 +11,7 @@ use Rattle.calc_addr.specs.Places.{Place, Rectangle, covers, place_cmp}
 use Rattle.calc_model.specs.declared.content.Content.{Content}
 use Rattle.calc_model.specs.declared.content.Content.TheVariants.{Empty}
 use Rattle.calc_model.specs.Books.{Book, content_at, is_held, with_content}
-use Rattle.calc_model.specs.Step.{without_area}
+use Rattle.calc_model.specs.CellEdits.{without_area}
 use Rattle.calc_model.proofs.Places.{same_places}
 use Rattle.calc_model.proofs.Reached.{same_cell}
 use Rattle.cell_map.proofs.Lookups.{find-lookup}

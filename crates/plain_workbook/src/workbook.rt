@@ -4,7 +4,7 @@ ghost use Rattle.calc_addr.specs.Places.{Place};
 ghost use Rattle.calc_model.specs.Books.{IsBook, with_content};
 ghost use Rattle.calc_model.specs.Results.{ShowsAll};
 ghost use Rattle.calc_model.specs.Stale.{count_in, is_formula_cell};
-ghost use Rattle.calc_model.specs.Step.{step};
+ghost use Rattle.calc_model.specs.Step.{built_step};
 ghost use Rattle.cell_map.specs.ResultMap.{results_of};
 ghost use Rattle.calc_model.specs.declared.edit.EditCause.{EditCause};
 ghost use Rattle.plain_workbook.specs.Touched.{contains_cell};
@@ -65,11 +65,11 @@ impl PlainWorkbook {
     /// Makes an edit; so far all but `Set` and `Clear` are refused. To set a cell takes the logarithm of the
     /// cells, to clear an area that for each of its columns and each cell that it empties.
     pub fn edit(&mut self, alloc: Global, edit: &Edit) -> Result<(), EditFault>
-        ensures done { OnOk result (step self.old.book edit.now ≡ Ok self.new.book) }
+        ensures done { OnOk result (built_step self.old.book edit.now ≡ Ok self.new.book) }
         ensures book { OnOk result (IsBook self.new.book) }
         ensures stale { OnOk result (Stales self.old edit.now self.new) }
         ensures refused { (cause : EditCause) → IsErrOf result (EditFault.Refused cause) →
-            step self.old.book edit.now ≡ Err cause }
+            built_step self.old.book edit.now ≡ Err cause }
         ensures kept { OnErr result (self.new ≡ self.old) }
     {
         match edit {
@@ -81,11 +81,11 @@ impl PlainWorkbook {
 
     fn set(&mut self, alloc: Global, cell: Cell, content: &Content) -> Result<(), EditFault>
         ensures done { OnOk result
-            (step self.old.book (Edit.Set cell content.now) ≡ Ok self.new.book) }
+            (built_step self.old.book (Edit.Set cell content.now) ≡ Ok self.new.book) }
         ensures book { OnOk result (IsBook self.new.book) }
         ensures stale { OnOk result (Stales self.old (Edit.Set cell content.now) self.new) }
         ensures refused { (cause : EditCause) → IsErrOf result (EditFault.Refused cause) →
-            step self.old.book (Edit.Set cell content.now) ≡ Err cause }
+            built_step self.old.book (Edit.Set cell content.now) ≡ Err cause }
         ensures kept { OnErr result (self.new ≡ self.old) }
     {
         if !self.cells.has_room(cell, content) {
@@ -101,7 +101,7 @@ impl PlainWorkbook {
     fn put(&mut self, alloc: Global, cell: Cell, content: &Content) -> Result<(), NoMemory>
         requires room { length (with_content self.old.book.cells cell content.now) ≤ MOST_CELLS }
         ensures done { OnOk result
-            (step self.old.book (Edit.Set cell content.now) ≡ Ok self.new.book) }
+            (built_step self.old.book (Edit.Set cell content.now) ≡ Ok self.new.book) }
         ensures book { OnOk result (IsBook self.new.book) }
         ensures stale { OnOk result (Stales self.old (Edit.Set cell content.now) self.new) }
         ensures kept { OnErr result (self.new ≡ self.old) }
@@ -121,7 +121,7 @@ impl PlainWorkbook {
     }
 
     fn clear(&mut self, area: Area) -> Result<(), EditFault>
-        ensures done { OnOk result (step self.old.book (Edit.Clear area) ≡ Ok self.new.book) }
+        ensures done { OnOk result (built_step self.old.book (Edit.Clear area) ≡ Ok self.new.book) }
         ensures book { OnOk result (IsBook self.new.book) }
         ensures stale { OnOk result (Stales self.old (Edit.Clear area) self.new) }
         ensures refused { (cause : EditCause) → IsErrOf result (EditFault.Refused cause) → ⊥ }

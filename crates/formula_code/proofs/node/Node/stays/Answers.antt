@@ -7,7 +7,7 @@ use Rattle.formula_code.specs.Changes.{changed}
 use Rattle.formula_code.specs.Relative.{absolute_reference, relative, relative_reference}
 use Rattle.formula_code.specs.Staying.{StaysAfter}
 use Rattle.formula_code.specs.Tokens.{absolute_node, is_valid_node}
-use Rattle.formula_code.proofs.Replaced.{replaced-Ref}
+use Rattle.calc_model.proofs.Replaced.{replaced-Ref}
 use Rattle.formula_code.proofs.node.Node.stays.Goals as goal
 
 pub at-requires : goal.at-requires

@@ -5,7 +5,7 @@ use Rattle.formula_code.specs.Changes.{changed}
 use Rattle.formula_code.specs.Codes.{tree_at}
 use Rattle.formula_code.specs.declared.change.Change.TheVariants.{Stays}
 use Rattle.formula_code.proofs.Built.{built_whole, only_built}
-use Rattle.formula_code.proofs.Replaced.{replaced_same}
+use Rattle.calc_model.proofs.Replaced.{replaced_same}
 use Rattle.formula_code.proofs.table.CodeTable.tree_at.Goals as goal
 
 pub build-requires-clause-whole : goal.build-requires-clause-whole

@@ -1,0 +1,5 @@
+use Rattle.calc_model.proofs.ShiftedReads.{deletion_stays, insertion_stays}
+use Rattle.calc_model.proofs.laws.rows_change_their_readers.Goals as goal
+
+pub returns : goal.returns
+returns c = record { inserted = insertion_stays; deleted = deletion_stays }
