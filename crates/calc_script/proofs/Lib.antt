@@ -1,4 +1,8 @@
--- Splitting (the words of a text), TextCuts (cuts of a text are texts), and worked Examples.
+-- Splitting (the words of a text), TextCuts (cuts of a text are texts), Counts (words of digits), FormTable (the table
+-- of the code), and worked examples.
 pub mod Splitting
 pub mod TextCuts
 mod Examples
+pub mod FormTable
+pub mod Counts
+mod EditExamples

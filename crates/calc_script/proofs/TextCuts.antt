@@ -2,12 +2,12 @@
 use Rattle.std.proofs.Common.{◌≡◌, ℕ, ◌+◌, ◌<◌, ◌≤◌, Bool, true, false, not, cond, List, [], ◌∷◌, length, drop, get_or, refl, sym, subst, inl, inr, arith}
 use Rattle.std.specs.List.{position_or_len, prefix_len}
 use Rattle.std.specs.Str.{IsUtf8, is_utf8}
-use Rattle.std.proofs.lemmas.Str.{IsUtf8-nil, IsUtf8-drop, IsUtf8-from_is_utf8, is_utf8-from_IsUtf8, IsCharBoundary-after_ascii}
-use Rattle.std.proofs.lemmas.List.{drop_all}
+use Rattle.std.proofs.lemmas.Str.{IsUtf8-nil, IsUtf8-drop, IsUtf8-take, IsCharBoundary-before_ascii, IsUtf8-from_is_utf8, is_utf8-from_IsUtf8, IsCharBoundary-after_ascii}
+use Rattle.std.proofs.lemmas.List.{drop_all, take_all}
 use Rattle.std.proofs.lemmas.List.Sums.{prefix_len_stops}
 use Rattle.std.proofs.lemmas.Bool.{cases_lt, not-false}
 use Rattle.calc_script.proofs.Splitting.{longer_drop}
-use Rattle.calc_script.specs.Words.{is_space, without_spaces, behind_space}
+use Rattle.calc_script.specs.Words.{is_space, without_spaces, behind_space, up_to_space}
 
 pub text_passes : (bs : List ℕ) → IsUtf8 bs → is_utf8 bs ≡ true
 text_passes bs u = is_utf8-from_IsUtf8 bs u
@@ -44,4 +44,15 @@ behind_space_text bs u =
       | inr none ↦
           let ends : length bs ≤ at + 1 = omega arith in
           subst IsUtf8 (sym (drop_all (at + 1) bs ends)) IsUtf8-nil
+    ]
+
+-- what stands before the first space
+pub up_to_space_text : (bs : List ℕ) → IsUtf8 bs → IsUtf8 (up_to_space bs)
+up_to_space_text bs u =
+    let at : ℕ = position_or_len is_space bs in
+    elim (cases_lt at (length bs)) [
+      | inl some ↦
+          let space : is_space (get_or bs at 0) ≡ true = not-false (is_space (get_or bs at 0)) (prefix_len_stops (λ x. not (is_space x)) bs 0 some) in
+          IsUtf8-take bs at u (IsCharBoundary-before_ascii bs at some (space_is_ascii (get_or bs at 0) space))
+      | inr none ↦ subst IsUtf8 (sym (take_all at bs none)) u
     ]

@@ -1,17 +1,21 @@
 -- The commands that lines spell. A line that is empty, has spaces alone or begins with `#` does nothing.
--- A command's name stands at the line's start. Its other words must be of its form, then its addresses
--- must lie in the sheets, and then it must not print more cells than a line may. What a field of a line
--- holds is given: `field` says it of each text.
-use Rattle.std.specs.Prelude.{ℕ, ◌==◌, nat_le, List, [], ◌∷◌, length, codes, Result, Ok, Err, if◌then◌else◌}
+-- A command's name stands at the line's start. Its other words must be of its form, then all that they
+-- name must lie in the sheets, then it must not print more cells than a line may, and then the name that it
+-- defines must be one. What a field of a line holds is given: `field` says it of each text.
+use Rattle.std.specs.Prelude.{ℕ, ◌+◌, ◌==◌, ◌&&◌, nat_le, List, [], ◌∷◌, length, codes, Result, Ok, Err, if◌then◌else◌}
 use Rattle.std.specs.Str.{bytes_eq, is_utf8}
-use Rattle.calc_addr.specs.Places.{Rectangle, cell_count}
-use Rattle.calc_addr.specs.Spelling.{spelled_area, spelled_cell}
+use Rattle.calc_addr.specs.Places.{Place, Rectangle, cell_count}
+use Rattle.calc_addr.specs.Spelling.{both, row_of, spelled_area, spelled_cell, spelled_row}
+use Rattle.calc_addr.specs.ValidReferences.{is_rectangle}
+use Rattle.calc_addr.specs.declared.cell.TheConstants.{LAST_ROW}
 use Rattle.calc_addr.specs.declared.read.Spelled.{Spelled}
 use Rattle.calc_addr.specs.declared.read.Spelled.TheVariants.{Is, Outside, Not}
 use Rattle.calc_model.specs.declared.content.Content.{Content}
-use Rattle.calc_model.specs.declared.edit.Edit.TheVariants.{Set, Clear}
+use Rattle.calc_model.specs.declared.edit.Edit.TheVariants.{Set, Clear, Copy, Fill, InsertRows, DeleteRows, Name, Unname}
 use Rattle.calc_model.specs.declared.edit.EditCause.{EditCause}
 use Rattle.calc_model.specs.declared.edit.EditCause.TheVariants.{NotBuilt, OffSheet, BadName, NoName, NamesFull, RowsFull, CellsFull}
+use Rattle.calc_model.specs.CellEdits.{area_at}
+use Rattle.calc_model.specs.Tokens.{is_name}
 use Rattle.calc_script.specs.declared.command.Line.{Line}
 use Rattle.calc_script.specs.declared.command.Line.TheVariants.{Nothing, Do, Refused}
 use Rattle.calc_script.specs.declared.command.Command.{Command}
@@ -64,9 +68,81 @@ abbrev pub bare_line : Command → List (List ℕ) → Line
 bare_line command [] = Do command
 bare_line command (word ∷ words) = Refused BadCommand
 
+-- what was read, where it passes a further test
+abbrev pub tested : {A B : Type 0} → (A → Result B Cause) → Result A Cause → Result B Cause
+tested test (Ok read) = test read
+tested test (Err cause) = Err cause
+
+-- the words of a command that has two addresses and no more: first both must have their form, and then
+-- both must lie in the sheets
+unfoldable pub two_addresses : {A B : Type 0} → (List ℕ → Spelled A) → (List ℕ → Spelled B) → List (List ℕ) → Result (A × B) Cause
+two_addresses first second [] = Err BadCommand
+two_addresses first second (word ∷ []) = Err BadCommand
+two_addresses first second (word ∷ other ∷ []) = address_of (both (λ a b. (a, b)) (first word) (second other))
+two_addresses first second (word ∷ other ∷ third ∷ words) = Err BadCommand
+
+-- an area, and the cell where an area of that size begins, which lies in the same sheet
+abbrev pub on_one_sheet : Rectangle × Place → Result (Rectangle × Place) Cause
+on_one_sheet (area, to) =
+    if (to.sheet == area.sheet) && is_rectangle (area_at area to) then Ok (area, to) else Err (Edit OffSheet)
+
+-- a cell and an area of the same sheet
+abbrev pub of_one_sheet : Place × Rectangle → Result (Place × Rectangle) Cause
+of_one_sheet (from, area) = if from.sheet == area.sheet then Ok (from, area) else Err (Edit OffSheet)
+
+-- a row of a sheet, and how many rows from there on, which the sheet has
+abbrev pub within_sheet : (ℕ × ℕ) × ℕ → Result ((ℕ × ℕ) × ℕ) Cause
+within_sheet ((sheet, row), count) =
+    if nat_le (row + count) (LAST_ROW + 1) then Ok ((sheet, row), count) else Err (Edit OffSheet)
+
+-- the area that a name is given
+abbrev pub area_for : List ℕ → Rectangle → Result Rectangle Cause
+area_for name area = if is_name name then Ok area else Err (Edit BadName)
+
 -- `clear AREA`
 unfoldable pub clear_of : List ℕ → Line
 clear_of rest = line_with (λ area. commands.Edit (Clear area)) (area_of (words_of rest))
+
+-- `copy AREA CELL`
+unfoldable pub copy_of : List ℕ → Line
+copy_of rest =
+    line_with (λ read. commands.Edit (Copy read.0 read.1))
+    (tested on_one_sheet (two_addresses spelled_area spelled_cell (words_of rest)))
+
+-- `fill CELL AREA`
+unfoldable pub fill_of : List ℕ → Line
+fill_of rest =
+    line_with (λ read. commands.Edit (Fill read.0 read.1))
+    (tested of_one_sheet (two_addresses spelled_cell spelled_area (words_of rest)))
+
+-- a row and a number of rows, which is spelled as that of a row is; more rows than the last one leave the sheet
+unfoldable pub rows_of : List (List ℕ) → Result ((ℕ × ℕ) × ℕ) Cause
+rows_of words = tested within_sheet (two_addresses spelled_row row_of words)
+
+-- `insert ROW COUNT`
+unfoldable pub insert_of : List ℕ → Line
+insert_of rest = line_with (λ read. commands.Edit (InsertRows read.0.0 read.0.1 read.1)) (rows_of (words_of rest))
+
+-- `delete ROW COUNT`
+unfoldable pub delete_of : List ℕ → Line
+delete_of rest = line_with (λ read. commands.Edit (DeleteRows read.0.0 read.0.1 read.1)) (rows_of (words_of rest))
+
+-- `name NAME AREA`, of its words
+unfoldable pub name_line : List (List ℕ) → Line
+name_line [] = Refused BadCommand
+name_line (name ∷ words) = line_with (λ area. commands.Edit (Name name area)) (tested (area_for name) (area_of words))
+
+abbrev pub name_of : List ℕ → Line
+name_of rest = name_line (words_of rest)
+
+-- `unname NAME`, of its words
+unfoldable pub unname_line : List (List ℕ) → Line
+unname_line [] = Refused BadCommand
+unname_line (name ∷ []) = Do (commands.Edit (Unname name))
+unname_line (name ∷ other ∷ words) = Refused BadCommand
+
+abbrev pub unname_of : List ℕ → Line
+unname_of rest = unname_line (words_of rest)
 
 -- `calc`
 unfoldable pub calc_of : List ℕ → Line
@@ -96,11 +172,17 @@ module _ (field : List ℕ → Content) where
   unfoldable pub set_of : List ℕ → Line
   set_of rest = set_line (up_to_space (without_spaces rest)) (behind_space (without_spaces rest))
 
-  -- what a command does, by its name, with what follows the space behind it
+  -- the commands, each with its name, and what it does with what follows the space behind that
   abbrev pub forms : List (List ℕ × (List ℕ → Line))
   forms =
       (codes "set", set_of)
       ∷ (codes "clear", clear_of)
+      ∷ (codes "copy", copy_of)
+      ∷ (codes "fill", fill_of)
+      ∷ (codes "insert", insert_of)
+      ∷ (codes "delete", delete_of)
+      ∷ (codes "name", name_of)
+      ∷ (codes "unname", unname_of)
       ∷ (codes "calc", calc_of)
       ∷ (codes "print", print_of)
       ∷ (codes "formulas", formulas_of)

@@ -1,7 +1,10 @@
 //! A script's lines and the commands that they spell.
 #![tactic(auto)]
 
+mod addresses;
 mod command;
+mod edits;
+mod forms;
 mod limits;
 mod read;
 mod words;

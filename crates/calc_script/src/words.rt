@@ -1,7 +1,8 @@
 ghost use Rattle.calc_script.specs.Words.{behind_space, is_idle, is_space, up_to_space, without_return, without_spaces, words_of};
 ghost use Rattle.std.specs.Iterator.{YieldsFirstBy, item_count};
 ghost use Rattle.std.specs.List.{list_all, prefix_len};
-ghost use Rattle.std.specs.Prelude.{MatchOption, [], length, ◌∷◌, ◌≡◌, ◌≤◌};
+ghost use Rattle.std.specs.Prelude.{IfSome, MatchOption, [], length, ◌∷◌, ◌≡◌, ◌≤◌};
+ghost use Rattle.std.specs.Str.{IsUtf8};
 
 use byte_cuts::cut;
 use std::marker::Model;
@@ -43,9 +44,10 @@ impl<'a> Iterator for LineWords<'a> {
 }
 
 /// The first word of a text, and what follows the space behind it.
-fn first_word(text: &[u8]) -> Option<(&[u8], &[u8])>
-    ensures { MatchOption result (words_of text.now ≡ [])
+pub(crate) fn first_word(text: &[u8]) -> Option<(&[u8], &[u8])>
+    ensures words { MatchOption result (words_of text.now ≡ [])
         (λ parts. words_of text.now ≡ parts.0.now ∷ words_of parts.1.now) }
+    ensures text { IsUtf8 text.now → IfSome result (λ parts. IsUtf8 parts.0.now) }
 {
     let text = without_spaces(text);
     if text.is_empty() {

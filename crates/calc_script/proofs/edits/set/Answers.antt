@@ -3,7 +3,7 @@ use Rattle.std.proofs.Common.{sym, subst}
 use Rattle.std.specs.Str.{IsUtf8}
 use Rattle.calc_script.specs.Commands.{set_of}
 use Rattle.calc_script.proofs.TextCuts.{behind_space_text, without_spaces_text}
-use Rattle.calc_script.proofs.read.set.Goals as goal
+use Rattle.calc_script.proofs.edits.set.Goals as goal
 
 pub set_cell-requires : goal.set_cell-requires
 set_cell-requires c =
