@@ -1,6 +1,6 @@
 //! What lines of a script do to a workbook, and what they write.
 ghost use Rattle.std.specs.Prelude.{◌≡◌, IfOk, false, true};
-ghost use Rattle.calc_model.specs.Step.{built_step};
+ghost use Rattle.plain_workbook.specs.BuiltStep.{built_step};
 ghost use Rattle.calc_cli.specs.Output.{accepted, answer, done, edited, recalculated, recalculation, refusal_text};
 ghost use Rattle.calc_cli.specs.Records.{held_texts, printed_area, shown_texts};
 ghost use Rattle.calc_cli.specs.Sessions.{Replies, session_of};

@@ -44,12 +44,6 @@ step book (Unname name) =
 -- not built yet
 step book (Make start rows) = Err NotBuilt
 
--- the edits that workbooks make so far
-abbrev pub built_step : Book → Edit → Result Book EditCause
-built_step book (Set cell content) = step book (Set cell content)
-built_step book (Clear area) = step book (Clear area)
-built_step book _ = Err NotBuilt
-
 -- an edit whose cells, areas and contents are what they can be
 abbrev pub is_edit : Edit → Bool
 is_edit (Set cell content) = is_place cell && (not (is_held content) || is_content content)

@@ -1,3 +1,4 @@
+pub mod BuiltStep
 pub mod Touched
 pub mod Reach
 pub mod Workbook

@@ -4,7 +4,7 @@ ghost use Rattle.calc_addr.specs.Places.{Place};
 ghost use Rattle.calc_model.specs.Books.{IsBook, with_content};
 ghost use Rattle.calc_model.specs.Results.{ShowsAll};
 ghost use Rattle.calc_model.specs.Stale.{count_in, is_formula_cell};
-ghost use Rattle.calc_model.specs.Step.{built_step};
+ghost use Rattle.plain_workbook.specs.BuiltStep.{built_step};
 ghost use Rattle.cell_map.specs.ResultMap.{results_of};
 ghost use Rattle.calc_model.specs.declared.edit.EditCause.{EditCause};
 ghost use Rattle.plain_workbook.specs.Touched.{contains_cell};
