@@ -17,6 +17,7 @@ mod ShownExamples
 mod StepExamples
 mod StaleExamples
 mod OperatorExamples
+mod FunctionExamples
 pub mod Reached
 pub mod BooksKept
 pub mod GrammarLevels
