@@ -24,6 +24,7 @@ mod EditExamples
 mod TouchedExamples
 mod StaleExamples
 mod OperatorExamples
+mod FunctionExamples
 pub mod Reached
 pub mod BooksKept
 pub mod GrammarLevels
