@@ -9,7 +9,7 @@ ghost use Rattle.fn_args.specs.Counts.{values_of_arg, values_of_args};
 ghost use Rattle.fn_args.specs.Tallies.{MOST_IN_AREA};
 
 use crate::pieces::Pieces;
-use crate::tally::{lies_in_sheet, small};
+use crate::tally::lies_in_sheet;
 use calc_addr::Area;
 use calc_model::{Arg, Piece, Seen, Values};
 
@@ -17,6 +17,7 @@ use calc_model::{Arg, Piece, Seen, Values};
 pub trait Test {
     ghost use Rattle.std.specs.Prelude.{◌≡◌, Bool};
     ghost use Rattle.calc_model.specs.declared.value.Value.{Value};
+    ghost use Rattle.calc_model.specs.declared.value.Value.TheVariants.{Number};
     ghost use Rattle.calc_model.specs.ValueTexts.{lent};
 
     ghost test: { Self → Value → Bool };
@@ -24,6 +25,10 @@ pub trait Test {
     /// Whether the value passes.
     fn passes(&self, seen: &Seen<'_>) -> bool
         ensures { result ≡ test self.now (lent seen.now) };
+
+    /// Whether the number with that raw number passes.
+    fn passes_number(&self, raw: i64) -> bool
+        ensures { result ≡ test self.now (Number raw) };
 }
 
 /// How many values of a list pass, blank ones too.
@@ -88,9 +93,7 @@ fn count_small<T: Test>(items: &[i64], test: &T) -> usize
 {
     let mut count = 0;
     for item in items {
-        if test.passes(&Seen::Number(small(*item))) {
-            count += 1;
-        }
+        count += usize::from(test.passes_number(*item));
     }
     count
 }

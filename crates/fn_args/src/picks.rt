@@ -101,7 +101,7 @@ fn tally_by_numbers<C: Test, T: Tally>(
             Ok(())
         }
         Piece::Blank { .. } => Ok(()),
-        Piece::One(_) => tally_if(test.passes(&Seen::Number(small(keys[0]))), piece, taker),
+        Piece::One(_) => tally_if(test.passes_number(keys[0]), piece, taker),
     }
 }
 
@@ -114,8 +114,7 @@ fn tally_where<C: Test, T: Tally>(keys: &[i64], items: &[i64], test: &C, taker: 
     ensures left { (k : ℕ) → T.room taker.old (length items.now + k) → T.room taker.new k }
 {
     for place in 0..keys.len() {
-        let picked = test.passes(&Seen::Number(small(keys[place])));
-        take_if(picked, items[place], taker);
+        take_if(test.passes_number(keys[place]), items[place], taker);
     }
 }
 

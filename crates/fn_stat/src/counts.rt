@@ -30,6 +30,10 @@ impl Test for IsNumber {
             Seen::Blank => false,
         }
     }
+
+    fn passes_number(&self, _raw: i64) -> bool {
+        true
+    }
 }
 
 impl Test for IsUsed {
@@ -43,6 +47,10 @@ impl Test for IsUsed {
             Seen::Blank => false,
         }
     }
+
+    fn passes_number(&self, _raw: i64) -> bool {
+        true
+    }
 }
 
 impl Test for IsWithoutText {
@@ -55,6 +63,10 @@ impl Test for IsWithoutText {
             Seen::Bad(_fault) => false,
             Seen::Blank => true,
         }
+    }
+
+    fn passes_number(&self, _raw: i64) -> bool {
+        false
     }
 }
 

@@ -1,5 +1,5 @@
 //! Criteria: which cells a value picks (OpenFormula, 4.11.8).
-ghost use Rattle.std.specs.Prelude.{◌≡◌, IfOk};
+ghost use Rattle.std.specs.Prelude.{◌≡◌, ℕ, ℤ, List, IfOk};
 ghost use Rattle.std.specs.Ordering.{is_eq, is_ge, is_gt, is_le, is_lt};
 ghost use Rattle.calc_model.specs.Arguments.{meaning_of, meanings_of};
 ghost use Rattle.std.specs.List.{count_by};
@@ -10,7 +10,7 @@ ghost use Rattle.calc_model.specs.Criteria.{criterion, criterion_by, criterion_o
 ghost use Rattle.calc_model.specs.ValueTexts.{lent};
 ghost use Rattle.calc_model.specs.declared.value.Value.TheVariants as value;
 ghost use Rattle.fn_args.specs.Lent.{wanted_value};
-ghost use Rattle.fn_stat.specs.Criterions.{meant};
+ghost use Rattle.fn_stat.specs.Criterions.{meant, order_matches};
 
 use calc_addr::{Area, Cell, NoMemory};
 use calc_model::{Arg, Fault, Op, Seen, Value, Values};
@@ -146,11 +146,53 @@ fn is_at_least(order: Option<Ordering>) -> bool
     }
 }
 
+/// Whether the number with that raw number matches by its order.
+fn number_matches(op: Op, raw: i64, with: Num) -> bool
+    ensures { result ≡ matches_by op (value.Number raw) (value.Number with) }
+{
+    match i64::try_from(with.raw()) {
+        Ok(with) => order_matches(op, raw.cmp(&with)),
+        Err(_) => order_matches(op, i128::from(raw).cmp(&with.raw())),
+    }
+}
+
+/// Whether a value of the kind that compares so matches.
+fn order_matches(op: Op, order: Ordering) -> bool
+    ensures { result ≡ order_matches op order }
+{
+    match op {
+        Op::Ne => order.is_ne(),
+        Op::Lt => order.is_lt(),
+        Op::Le => order.is_le(),
+        Op::Gt => order.is_gt(),
+        Op::Ge => order.is_ge(),
+        _ => order.is_eq(),
+    }
+}
+
+/// Whether a number matches where a text is meant.
+fn other_kind_matches(op: Op) -> bool
+    ensures { (n : ℤ) → (bytes : List ℕ)
+        → result ≡ matches_by op (value.Number n) (value.Words bytes) }
+{
+    match op {
+        Op::Ne => true,
+        _ => false,
+    }
+}
+
 impl Test for Criterion<'_> {
     ghost test = { λ c. matches (meant c) };
 
     fn passes(&self, seen: &Seen<'_>) -> bool {
         matches(self, seen)
+    }
+
+    fn passes_number(&self, raw: i64) -> bool {
+        match self.with {
+            Wanted::Number(with) => number_matches(self.op, raw, with),
+            Wanted::Words(_bytes) => other_kind_matches(self.op),
+        }
     }
 }
 

@@ -25,7 +25,7 @@ loop-place-preserved g c =
     let test = g.C.Test.test c.args.test.now in
     let fits_k : SFits w64 k = search rules in
     let fits_n : SFits w64 n = search rules in
-    let picked = c.passes-picked.ensures ∙ ap (λ x. test (Number x)) (c.small.ensures ∙ to_z-of_z w64 k fits_k) in (
+    let picked = c.passes_number.ensures ∙ ap (λ x. test (Number x)) (to_z-of_z w64 k fits_k) in (
       c.take_if.ensures.taken ∙ ap (λ b. cond b (step old (to_z w64 (of_z w64 n))) old) picked ∙ ap (λ x. cond (test (Number k)) (step old x) old) (to_z-of_z w64 n fits_n)
           ∙ ap (λ s. cond (test (Number k)) (step s n) s) c.loop-place.invariant.0
           ∙ sym (one-place step (λ x. test (Number x)) c.args.taker.now keys items i c.requires.same c.loop-place-test.true),

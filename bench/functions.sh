@@ -1,0 +1,73 @@
+#!/usr/bin/env bash
+# Times functions of lists and areas over columns of 100,000 numbers against plain C loops that give the same, on the
+# same numbers in the same run.
+#
+# bench/functions/functions.c is the C. gcc builds it, and clang where it is on the path or in the toolchain that runs
+# `rt`; of their times the least counts. bench/functions/program has the Rattle side: its files end in `.rattle`, since an
+# `.rt` or `.antt` file belongs to a crate of crates.txt, and become those of a crate in a repository of their own beside
+# copies of the crates that it stands on.
+#
+# Prints a line a call: its name, the nanoseconds a row of calc and of C, and the ratio of the two. All programs give
+# checksums of all results, and the script fails where two differ. It takes some minutes, most of them for proofs from
+# nothing.
+set -euo pipefail
+
+top="$(cd "$(dirname "$0")/.." && pwd)"
+source="$top/bench/functions"
+work="$(mktemp -d)"
+trap 'rm -rf "$work"' EXIT
+
+cp "$top/HANDLES" "$work/"
+for crate in byte_cuts calc_num calc_addr calc_model fn_args fn_stat fn_lookup; do
+    mkdir -p "$work/crates/$crate"
+    for folder in src specs proofs; do
+        if [ -d "$top/crates/$crate/$folder" ]; then cp -r "$top/crates/$crate/$folder" "$work/crates/$crate/"; fi
+    done
+    grep "^$crate:" "$top/crates.txt" >>"$work/crates.txt"
+done
+(cd "$source/program" && find . -name '*.rattle') | while read -r file; do
+    case "$file" in
+        *.antt.rattle) to="$work/crates/functions/${file%.rattle}" ;;
+        *) to="$work/crates/functions/src/$(basename "$file" .rattle).rt" ;;
+    esac
+    mkdir -p "$(dirname "$to")"
+    cp "$source/program/$file" "$to"
+done
+printf 'functions: fn_stat fn_lookup calc_model calc_addr calc_num\n' >>"$work/crates.txt"
+(cd "$work/crates/functions" && rt run --jobs 1 >/dev/null 2>"$work/log") || {
+    cat "$work/log" >&2
+    exit 1
+}
+
+# Rattle compiles for x86-64-v2, and so does the C.
+flags=(-O3 -march=x86-64-v2 -isystem "$(gcc -print-file-name=include)")
+kit="$(dirname "$(dirname "$(readlink -f "$(command -v rt)")")")/toolchain/bin/clang"
+for compiler in gcc clang "$kit"; do
+    command -v "$compiler" >/dev/null || continue
+    "$compiler" "${flags[@]}" -c -o "$work/functions.o" "$source/functions.c"
+    gcc -o "$work/c_$(echo "$compiler" | tr / _)" "$work/functions.o"
+done
+
+# In turn, since other work on the machine comes and goes. The least time of each call counts.
+for _ in 1 2 3 4 5; do
+    "$work/crates/functions/out/functions" | sed 's/^/calc /'
+    for program in "$work"/c_*; do "$program" | sed 's/^/C /'; done
+done >"$work/lines"
+
+# A line: whose it is, name, nanoseconds, checksum.
+printf '%-15s %6s %6s %6s\n' call calc C ratio
+awk '
+    { key = $2; nanos = $3 / 100000 }
+    !(key in results) { results[key] = $4; keys[++count] = key }
+    results[key] != $4 { print "the results of " key " differ"; wrong = 1 }
+    !(($1, key) in least) || nanos < least[$1, key] { least[$1, key] = nanos }
+    END {
+        for (at = 1; at <= count; at++) {
+            key = keys[at]
+            calc = least["calc", key]
+            c = least["C", key]
+            printf "%-15s %6.2f %6.2f %6.2f\n", key, calc, c, calc / c
+        }
+        exit wrong || count != 8
+    }
+' "$work/lines"
