@@ -2,7 +2,7 @@ use Rattle.std.proofs.Common.{◌≡◌, true, ap, sym, ◌∙◌}
 use Rattle.std.proofs.lemmas.Bool.{and_parts}
 use Rattle.std.specs.BTreeMap.{get}
 use Rattle.calc_addr.specs.Places.{covers, place_cmp}
-use Rattle.calc_model.specs.Step.{without_area}
+use Rattle.calc_model.specs.CellEdits.{without_area}
 use Rattle.cell_map.proofs.Emptying.{none_at_all, none_before_first, none_inside, outside_stays}
 use Rattle.cell_map.proofs.runs.remove_area.Goals as goal
 

@@ -2,7 +2,7 @@ use Rattle.std.proofs.Common.{◌≡◌, true, None, length}
 use Rattle.std.specs.BTreeMap.{get}
 use Rattle.std.specs.Ordering.{is_lt}
 use Rattle.calc_addr.specs.Places.{Place, covers, place_cmp}
-use Rattle.calc_model.specs.Step.{without_area}
+use Rattle.calc_model.specs.CellEdits.{without_area}
 use Rattle.cell_map.proofs.runs.remove_area.Given as goal
 
 -- the cells outside the area are as before, and those of it up to where the search goes on are empty
