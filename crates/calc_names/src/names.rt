@@ -17,8 +17,9 @@ use calc_model::{Looked, MOST_NAMES, NameTable, Text, is_name};
 use std::alloc::Global;
 use std::marker::Model;
 
-/// The names of a book in ASCII capitals, each with the area that it stands for. Names that differ in
-/// the case of ASCII letters alone are one. Contracts see the entries in the order of the names' bytes.
+/// The names of a book in ASCII capitals, each with the area that it stands for. Names that differ
+/// in the case of ASCII letters alone are one. Contracts see the entries in the order of the names'
+/// bytes.
 #[derive(Drop)]
 pub struct Names {
     alloc: Global,
@@ -47,7 +48,8 @@ impl Names {
         }
     }
 
-    /// The names in capitals and in order, each with what a look-up of it gives, which is never `Absent`.
+    /// The names in capitals and in order, each with what a look-up of it gives, which is never
+    /// `Absent`.
     pub fn entries(&self) -> &[(Text, Looked)]
         ensures entries { result.now ≡ with_answers self.now }
         ensures names { AreNames self.now }
@@ -55,7 +57,8 @@ impl Names {
         &self.entries
     }
 
-    /// Gives the name that area, whether or not it stood for another. A new name moves those behind it.
+    /// Gives the name that area, whether or not it stood for another. A new name moves those behind
+    /// it.
     pub fn define(&mut self, name: &Text, area: Area) -> Result<(), NameFault>
         ensures ok { OnOk result (self.new ≡ with_name self.old name.now area) }
         ensures err { OnErr result (self.new ≡ self.old) }
@@ -95,8 +98,8 @@ impl Names {
         }
     }
 
-    /// Moves the areas of a sheet with its rows where `count` rows are inserted at the row `place`. Linear
-    /// in the names.
+    /// Moves the areas of a sheet with its rows where `count` rows are inserted at the row `place`.
+    /// Linear in the names.
     pub fn insert_rows(&mut self, sheet: u8, place: u32, count: u32)
         requires sheet { sheet ≤ LAST_SHEET }
         requires from { 1 ≤ place }
@@ -107,8 +110,8 @@ impl Names {
         insert_rows(&mut self.entries, sheet, place, count);
     }
 
-    /// The same where `count` rows from the row `place` on are deleted: a name whose area has no row left
-    /// stays, without an area.
+    /// The same where `count` rows from the row `place` on are deleted: a name whose area has no
+    /// row left stays, without an area.
     pub fn delete_rows(&mut self, sheet: u8, place: u32, count: u32)
         requires sheet { sheet ≤ LAST_SHEET }
         requires from { 1 ≤ place }

@@ -7,7 +7,8 @@ ghost use Rattle.std.specs.Str.{str_to_ascii_uppercase};
 use crate::capitals::compare_with_capitals;
 use calc_model::{Looked, Text};
 
-/// Where the name stands among these, in capitals or not, or where it is to be put. Logarithmic in them.
+/// Where the name stands among these, in capitals or not, or where it is to be put. Logarithmic in
+/// them.
 pub(crate) fn place_of(entries: &[(Text, Looked)], name: &[u8]) -> Result<usize, usize>
     requires { is_sorted name_cmp entries.now ≡ true }
     ensures found { IfOk result (StandsAt entries.now (str_to_ascii_uppercase name.now)) }

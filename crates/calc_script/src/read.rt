@@ -13,8 +13,8 @@ use crate::words::{cut_word, is_idle, without_return, words};
 use calc_addr::NoMemory;
 use std::alloc::Global;
 
-/// What a line does, or why it is refused. It fails only where memory is refused, and takes none but
-/// for texts and formulas. Linear in the line.
+/// What a line does, or why it is refused. It fails only where memory is refused, and takes none
+/// but for texts and formulas. Linear in the line.
 pub fn read_line(alloc: Global, line: &[u8]) -> Result<Line, NoMemory>
     ensures { ReadsOver result (λ field. line_of field line.now) }
 {
