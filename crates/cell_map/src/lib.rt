@@ -6,6 +6,7 @@
 mod cells;
 mod copies;
 mod results;
+mod rows;
 mod runs;
 mod show;
 mod values;
