@@ -18,8 +18,8 @@ use Rattle.calc_model.proofs.BooksKept.{keeps_books}
 abbrev pub with_cells : List (Place × Content) → Book
 with_cells cells = record { cells = cells; names = [] }
 
-pub shift_tests : (place count : ℕ) → IsShift place count → are_rows place count ≡ true
-shift_tests place count shift = grind (arith, nat_tests, shift.from, shift.some, shift.to)
+pub shift_tests : (sheet place count : ℕ) → sheet ≤ 15 → IsShift place count → are_rows sheet place count ≡ true
+shift_tests sheet place count on shift = grind (arith, nat_tests, on, shift.from, shift.some, shift.to)
 
 module _ (cells after : List (Place × Content)) (is : IsBook (with_cells cells)) where
   pub set_keeps : (cell : Place) (content : Content) → is_edit (Set cell content) ≡ true → length (with_content cells cell content) ≤ MOST_CELLS → after ≡ with_content cells cell content → IsBook (with_cells after)
@@ -33,17 +33,17 @@ module _ (cells after : List (Place × Content)) (is : IsBook (with_cells cells)
       subst (λ es. IsBook (with_cells es)) (sym same)
       (keeps_books (with_cells cells) (with_cells (without_area cells area)) (Clear area) is refl refl)
 
-  pub insert_keeps : (sheet place count : ℕ) → IsShift place count → is_pushed_out sheet place count cells ≡ false → after ≡ cells_after_insertion sheet place count cells → IsBook (with_cells after)
-  insert_keeps sheet place count shift inside same =
+  pub insert_keeps : (sheet place count : ℕ) → sheet ≤ 15 → IsShift place count → is_pushed_out sheet place count cells ≡ false → after ≡ cells_after_insertion sheet place count cells → IsBook (with_cells after)
+  insert_keeps sheet place count on shift inside same =
       let next : Book = with_cells (cells_after_insertion sheet place count cells) in
       subst (λ es. IsBook (with_cells es)) (sym same)
       (keeps_books (with_cells cells) next (InsertRows sheet place count) is refl
-      (ap (λ b. cond (not b) (Err OffSheet) (cond (is_pushed_out sheet place count cells) (Err RowsFull) (Ok next))) (shift_tests place count shift)
+      (ap (λ b. cond (not b) (Err OffSheet) (cond (is_pushed_out sheet place count cells) (Err RowsFull) (Ok next))) (shift_tests sheet place count on shift)
       ∙ ap (λ b. cond b (Err RowsFull) (Ok next)) inside))
 
-  pub delete_keeps : (sheet place count : ℕ) → IsShift place count → after ≡ cells_after_deletion sheet place count cells → IsBook (with_cells after)
-  delete_keeps sheet place count shift same =
+  pub delete_keeps : (sheet place count : ℕ) → sheet ≤ 15 → IsShift place count → after ≡ cells_after_deletion sheet place count cells → IsBook (with_cells after)
+  delete_keeps sheet place count on shift same =
       let next : Book = with_cells (cells_after_deletion sheet place count cells) in
       subst (λ es. IsBook (with_cells es)) (sym same)
       (keeps_books (with_cells cells) next (DeleteRows sheet place count) is refl
-      (ap (λ b. cond (not b) (Err OffSheet) (Ok next)) (shift_tests place count shift)))
+      (ap (λ b. cond (not b) (Err OffSheet) (Ok next)) (shift_tests sheet place count on shift)))

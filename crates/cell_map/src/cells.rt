@@ -13,7 +13,7 @@ ghost use Rattle.calc_model.specs.Step.{is_edit};
 use crate::copies::{area_at, copied_entries, count_within};
 use crate::rows::{Rows, deleted, inserted, is_pushed_out};
 use crate::runs::remove_area;
-use calc_addr::{Area, Cell, NoMemory};
+use calc_addr::{Area, Cell, LAST_SHEET, NoMemory};
 use calc_model::{Content, Edit, Looked, MOST_CELLS, NameTable};
 use std::alloc::Global;
 use std::collections::BTreeMap;
@@ -249,6 +249,7 @@ impl CellMap {
         place: u32,
         count: u32,
     ) -> Result<(), NoMemory>
+        requires sheet { sheet ≤ LAST_SHEET }
         requires rows { IsShift place count }
         requires inside { is_pushed_out sheet place count self.old.cells ≡ false }
         ensures cells { OnOk result
@@ -274,7 +275,8 @@ impl CellMap {
         place: u32,
         count: u32,
     ) -> Result<(), NoMemory>
-        requires { IsShift place count }
+        requires sheet { sheet ≤ LAST_SHEET }
+        requires rows { IsShift place count }
         ensures cells { OnOk result
             (self.new.cells ≡ cells_after_deletion sheet place count self.old.cells) }
         ensures names { self.new.names ≡ self.old.names }

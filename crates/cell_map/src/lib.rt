@@ -12,6 +12,7 @@ mod show;
 mod values;
 
 pub use cells::CellMap;
+pub use copies::{area_at, lies_inside};
 pub use results::ResultMap;
 pub use show::{number_shown, show_cell, shown};
 pub use values::ShownCells;
