@@ -4,5 +4,6 @@ pub mod Sets
 pub mod Reaching
 -- what an edit leaves in the cells that it doesn't touch
 pub mod Contents
+pub mod Steps
 -- which formulas are stale after an edit
 pub mod Staleness
