@@ -3,7 +3,7 @@ use Rattle.std.proofs.Common.{◌≡◌}
 use Rattle.calc_addr.specs.Places.{Place}
 use Rattle.calc_model.specs.Books.{Book}
 use Rattle.calc_model.specs.Stale.{is_formula_cell}
-use Rattle.plain_workbook.specs.Workbook.{State, stale_of}
+use Rattle.workbook.specs.Workbook.{State, stale_of}
 use Rattle.calc_cli.specs.Output.{loaded}
 use Rattle.calc_cli.specs.Sessions.{session_of}
 

@@ -9,7 +9,7 @@ use Rattle.std.specs.Fmt.{decimal}
 use Rattle.calc_model.specs.Books.{Book}
 use Rattle.calc_model.specs.Touched.{CellSet}
 use Rattle.calc_model.specs.Stale.{count_in, is_formula_cell, stale_after}
-use Rattle.plain_workbook.specs.BuiltStep.{built_step}
+use Rattle.workbook.specs.BuiltStep.{built_step}
 use Rattle.calc_model.specs.Val.{val}
 use Rattle.calc_model.specs.declared.content.Content.{Content}
 use Rattle.calc_model.specs.declared.edit.Edit.{Edit}

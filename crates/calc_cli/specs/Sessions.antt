@@ -3,7 +3,7 @@ use Rattle.std.specs.Prelude.{◌≡◌, Result, IfOk}
 use Rattle.std.specs.declared.alloc.AllocError.{AllocError}
 use Rattle.calc_cli.specs.Output.{Answer, Session}
 use Rattle.calc_cli.specs.declared.replies.Reply.{Reply}
-use Rattle.plain_workbook.specs.Workbook.{State, stale_of}
+use Rattle.workbook.specs.Workbook.{State, stale_of}
 
 abbrev pub session_of : State → Session
 session_of state = record { book = state.book; stale = stale_of state }

@@ -14,7 +14,7 @@ use crate::status::{
 use crate::written::write_all;
 use calc_io::{DeviceFault, Sink};
 use cell_map::CellMap;
-use plain_workbook::PlainWorkbook;
+use workbook::Workbook;
 use std::alloc::Global;
 
 /// Ends a run by what the desk gave: writes the output, and answers the status.
@@ -69,7 +69,7 @@ fn answer_script<K: Sink>(alloc: Global, book: CellMap, script: &[u8], sink: &mu
         (length (calculated field_of book script.now).written)
         (K.faults sink.old) (K.faults sink.new) }
 {
-    let mut workbook = PlainWorkbook::load(alloc, book);
+    let mut workbook = Workbook::load(alloc, book);
     match write_output(alloc, &mut workbook, script, sink) {
         Ok(false) => DONE,
         Ok(true) => LINE_REFUSED,

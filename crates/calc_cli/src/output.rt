@@ -15,13 +15,13 @@ use crate::written::write_all;
 use calc_addr::NoMemory;
 use calc_io::{DeviceFault, Sink};
 use calc_script::{lines, read_line};
-use plain_workbook::PlainWorkbook;
+use workbook::Workbook;
 use std::alloc::Global;
 
 /// Writes what the lines of a script write, one after the other, and answers whether one is refused.
 pub(crate) fn write_output<K: Sink>(
     alloc: Global,
-    workbook: &mut PlainWorkbook,
+    workbook: &mut Workbook,
     script: &[u8],
     sink: &mut K,
 ) -> Result<bool, DeviceFault>
@@ -55,7 +55,7 @@ pub(crate) fn write_output<K: Sink>(
 /// Does what a line says and writes what it writes. Answers whether it is refused.
 fn write_line<K: Sink>(
     alloc: Global,
-    workbook: &mut PlainWorkbook,
+    workbook: &mut Workbook,
     number: usize,
     line: &[u8],
     sink: &mut K,
@@ -90,7 +90,7 @@ fn write_line<K: Sink>(
 /// Does what a line says.
 fn reply_to(
     alloc: Global,
-    workbook: &mut PlainWorkbook,
+    workbook: &mut Workbook,
     number: usize,
     line: &[u8],
 ) -> Result<Reply, NoMemory>

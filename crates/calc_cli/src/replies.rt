@@ -1,6 +1,6 @@
 //! What lines of a script do to a workbook, and what they write.
 ghost use Rattle.std.specs.Prelude.{◌≡◌, IfOk, false, true};
-ghost use Rattle.plain_workbook.specs.BuiltStep.{built_step};
+ghost use Rattle.workbook.specs.BuiltStep.{built_step};
 ghost use Rattle.calc_cli.specs.Output.{accepted, answer, done, edited, recalculated, recalculation, refusal_text};
 ghost use Rattle.calc_cli.specs.Records.{held_texts, printed_area, shown_texts};
 ghost use Rattle.calc_cli.specs.Sessions.{Replies, session_of};
@@ -12,7 +12,7 @@ use calc_addr::{Area, NoMemory};
 use calc_model::Edit;
 use calc_script::{Cause, Command, Line};
 use itoa::Buffer;
-use plain_workbook::{EditFault, PlainWorkbook};
+use workbook::{EditFault, Workbook};
 use std::alloc::{AllocError, Global};
 
 /// What a line writes, and whether it is refused.
@@ -26,7 +26,7 @@ pub(crate) struct Reply {
 #[tactic(auto, unfolding(crate::specs::Output::answer))]
 pub(crate) fn answer_line(
     alloc: Global,
-    workbook: &mut PlainWorkbook,
+    workbook: &mut Workbook,
     number: usize,
     line: &Line,
 ) -> Result<Reply, NoMemory>
@@ -42,7 +42,7 @@ pub(crate) fn answer_line(
 
 fn do_command(
     alloc: Global,
-    workbook: &mut PlainWorkbook,
+    workbook: &mut Workbook,
     number: usize,
     command: &Command,
 ) -> Result<Reply, NoMemory>
@@ -59,7 +59,7 @@ fn do_command(
 
 fn make_edit(
     alloc: Global,
-    workbook: &mut PlainWorkbook,
+    workbook: &mut Workbook,
     number: usize,
     edit: &Edit,
 ) -> Result<Reply, NoMemory>
@@ -73,7 +73,7 @@ fn make_edit(
     }
 }
 
-fn recalculate(alloc: Global, workbook: &mut PlainWorkbook) -> Result<Reply, NoMemory>
+fn recalculate(alloc: Global, workbook: &mut Workbook) -> Result<Reply, NoMemory>
     ensures { Replies result (session_of workbook.new) (accepted
         (recalculated (session_of workbook.old)) (recalculation (session_of workbook.old))) }
 {
@@ -86,7 +86,7 @@ fn recalculate(alloc: Global, workbook: &mut PlainWorkbook) -> Result<Reply, NoM
     Ok(accept(text))
 }
 
-fn print_shown(alloc: Global, workbook: &mut PlainWorkbook, area: Area) -> Result<Reply, NoMemory>
+fn print_shown(alloc: Global, workbook: &mut Workbook, area: Area) -> Result<Reply, NoMemory>
     ensures { Replies result (session_of workbook.new) (accepted
         (recalculated (session_of workbook.old))
         (printed_area (shown_texts (val (session_of workbook.old).book)) area)) }
@@ -99,7 +99,7 @@ fn print_shown(alloc: Global, workbook: &mut PlainWorkbook, area: Area) -> Resul
     Ok(accept(print_area(alloc, &shown, area)?))
 }
 
-fn print_held(alloc: Global, workbook: &PlainWorkbook, area: Area) -> Result<Reply, NoMemory>
+fn print_held(alloc: Global, workbook: &Workbook, area: Area) -> Result<Reply, NoMemory>
     ensures { Replies result (session_of workbook.now) (accepted (session_of workbook.now)
         (printed_area (held_texts (session_of workbook.now).book) area)) }
 {

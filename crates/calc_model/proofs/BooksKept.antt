@@ -235,8 +235,8 @@ content_can : (book : Book) → IsBook book → (q : Place) → is_held (content
 unfolding content_at
 content_can book is q = found_can q book.cells is.cells_held
 
-rows_from : (place count : ℕ) → not (are_rows place count) ≡ false → 1 ≤ place
-rows_from place count h = grind (arith, leb_tells)
+rows_from : (sheet place count : ℕ) → not (are_rows sheet place count) ≡ false → 1 ≤ place
+rows_from sheet place count h = grind (arith, leb_tells)
 
 pub keeps_books : KeepsBooks
 keeps_books book next (Set cell content) is valid stepped =
@@ -255,14 +255,14 @@ keeps_books book next (Fill from area) is valid stepped =
     let on = chosen (from.sheet == area.sheet) _ next OffSheet stepped in
     fitting_kept book next (after_fill book.cells from (content_at book from) area) is (fill_kept book.cells from (content_at book from) area parts.1 (content_can book is from) (cells_of book is)) on.1
 keeps_books book next (InsertRows sheet place count) is valid stepped =
-    let rows = passed_over (not (are_rows place count)) _ next OffSheet stepped in
+    let rows = passed_over (not (are_rows sheet place count)) _ next OffSheet stepped in
     let room = passed_over (is_pushed_out sheet place count book.cells) _ next RowsFull rows.1 in
     let after : Book = record { cells = cells_after_insertion sheet place count book.cells; names = names_after_insertion sheet place count book.names } in
     let same : after ≡ next = cc in
     subst IsBook same (book_is after (insertion_kept sheet place count book.cells room.0 (cells_of book is)) (omega (arith, as_many sheet place count book.cells, is.cells_in_limit)) (on_sheet_kept sheet (area_after_insertion place count) (inserted_target place count) book.names (names_of book is)))
 keeps_books book next (DeleteRows sheet place count) is valid stepped =
-    let rows = passed_over (not (are_rows place count)) _ next OffSheet stepped in
-    let from = rows_from place count rows.0 in
+    let rows = passed_over (not (are_rows sheet place count)) _ next OffSheet stepped in
+    let from = rows_from sheet place count rows.0 in
     let after : Book = record { cells = cells_after_deletion sheet place count book.cells; names = names_after_deletion sheet place count book.names } in
     let same : after ≡ next = cc in
     subst IsBook same (book_is after (deletion_kept sheet place count book.cells from (cells_of book is)) (omega (arith, no_more sheet place count book.cells, is.cells_in_limit)) (on_sheet_kept sheet (area_after_deletion place count) (deleted_target place count from) book.names (names_of book is)))

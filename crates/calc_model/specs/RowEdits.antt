@@ -2,7 +2,7 @@
 -- every formula of the book each reference to the sheet goes as its area does.
 use Rattle.std.specs.Prelude.{ℕ, ◌+◌, ◌==◌, ◌&&◌, not, nat_le, nat_lt, Bool, false, Option, Some, None, map}
 use Rattle.std.specs.List.{filter, list_any}
-use Rattle.calc_addr.specs.declared.cell.TheConstants.{LAST_ROW}
+use Rattle.calc_addr.specs.declared.cell.TheConstants.{LAST_ROW, LAST_SHEET}
 use Rattle.calc_addr.specs.Places.{Place, Rectangle}
 use Rattle.calc_addr.specs.Shifts.{area_after_deletion, area_after_insertion, is_deleted}
 use Rattle.calc_model.specs.declared.tree.Tree.{Tree}
@@ -11,9 +11,9 @@ use Rattle.calc_model.specs.CellEdits.{CellEntries, with_tree}
 use Rattle.calc_model.specs.Homes.{home_after_deletion, home_after_insertion}
 use Rattle.calc_model.specs.TreeShifts.{tree_after_deletion, tree_after_insertion}
 
--- rows of a sheet, one at least
-abbrev pub are_rows : ℕ → ℕ → Bool
-are_rows place count = nat_le 1 place && nat_le 1 count && nat_le (place + count) (LAST_ROW + 1)
+-- so many rows of a sheet from a place on, one at least
+abbrev pub are_rows : ℕ → ℕ → ℕ → Bool
+are_rows sheet place count = nat_le sheet LAST_SHEET && nat_le 1 place && nat_le 1 count && nat_le (place + count) (LAST_ROW + 1)
 
 -- the entry at the cell to which it goes, with another tree where it is a formula
 abbrev pub shifted_entry : (Place → Place) → (Place → Tree → Tree) → Place × Content → Place × Content

@@ -31,11 +31,11 @@ step book (Fill from area) =
     if from.sheet == area.sheet
     then if_cells_fit (with_cells book (after_fill book.cells from (content_at book from) area)) else Err OffSheet
 step book (InsertRows sheet place count) =
-    if not (are_rows place count) then Err OffSheet
+    if not (are_rows sheet place count) then Err OffSheet
     else (if is_pushed_out sheet place count book.cells then Err RowsFull
     else Ok (record { cells = cells_after_insertion sheet place count book.cells; names = names_after_insertion sheet place count book.names }))
 step book (DeleteRows sheet place count) =
-    if not (are_rows place count) then Err OffSheet
+    if not (are_rows sheet place count) then Err OffSheet
     else Ok (record { cells = cells_after_deletion sheet place count book.cells; names = names_after_deletion sheet place count book.names })
 step book (Name name area) =
     if is_name name then if_names_fit (record book { names = with_name book.names name area }) else Err BadName

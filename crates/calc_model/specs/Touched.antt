@@ -3,6 +3,7 @@ use Rattle.std.specs.Prelude.{ℕ, ◌+◌, ◌-◌, ◌==◌, ◌&&◌, ◌||�
 use Rattle.std.specs.Option.{option_map_or}
 use Rattle.std.specs.List.{list_any}
 use Rattle.std.specs.Ordering.{eq_by_cmp}
+use Rattle.calc_addr.specs.declared.cell.TheConstants.{LAST_COL, LAST_ROW}
 use Rattle.calc_addr.specs.Places.{Place, Rectangle, covers, place_cmp}
 use Rattle.calc_model.specs.declared.edit.Edit.{Edit}
 use Rattle.calc_model.specs.declared.edit.Edit.TheVariants.{Set, Clear, Copy, Fill, InsertRows, DeleteRows, Name, Unname, Make}
@@ -34,6 +35,10 @@ origin _ q = Some q
 abbrev pub moved : Edit → CellSet → CellSet
 moved edit cells q = option_map_or cells (origin edit q) false
 
+-- the cells of a sheet from a row on
+abbrev pub rows_from : ℕ → ℕ → Rectangle
+rows_from sheet row = record { sheet = sheet; first_col = 1; last_col = LAST_COL; first_row = row; last_row = LAST_ROW }
+
 -- the cells that read one of some areas, by a reference or by a name
 abbrev pub reads_any : Book → (Rectangle → Bool) → CellSet
 reads_any book areas q = list_any areas (reads book q)
@@ -43,17 +48,18 @@ abbrev pub users : Book → List ℕ → CellSet
 users book name q = uses_name name (content_at book q)
 
 -- The cells that an edit touches, from the book before it and the one after it: those where it puts or removes a
--- content; with rows those from the place on, and each whose formula is changed or uses a name whose area is, since
--- both read an area that is changed or deleted; with a name those that use it. `Make` isn't built, so it touches none.
+-- content; with rows those of the sheet from the place on, and each whose formula is changed or uses a name whose area
+-- is, since both read an area that is changed or deleted, and cells before the place stay where they are; with a name
+-- those that use it. `Make` isn't built, so it touches none.
 abbrev pub touched : Book → Edit → Book → CellSet
 touched before (Set cell content) after q = eq_by_cmp place_cmp cell q
 touched before (Clear area) after q = covers area q
 touched before (Copy area to) after q = covers (area_at area to) q
 touched before (Fill from area) after q = covers area q
 touched before (InsertRows sheet place count) after q =
-    is_from_row sheet place q || moved (InsertRows sheet place count) (reads_any before (is_changed_by_insertion sheet place count)) q
+    covers (rows_from sheet place) q || reads_any before (is_changed_by_insertion sheet place count) q
 touched before (DeleteRows sheet place count) after q =
-    is_from_row sheet place q || moved (DeleteRows sheet place count) (reads_any before (is_changed_by_deletion sheet place count)) q
+    covers (rows_from sheet place) q || reads_any before (is_changed_by_deletion sheet place count) q
 touched before (Name name area) after q = users after name q
 touched before (Unname name) after q = users after name q
 touched before (Make start rows) after q = false

@@ -72,6 +72,19 @@ same_order area to p q h k less =
     by_numbers : (s t c d r u x y v w sheet : ℕ) → s ≡ t → (c < d → x < y) → (c ≡ d → x ≡ y) → (r < u → v < w) → is_lt (ordering_then (nat_cmp s t) (ordering_then (nat_cmp c d) (nat_cmp r u))) ≡ true → is_lt (ordering_then (nat_cmp sheet sheet) (ordering_then (nat_cmp x y) (nat_cmp v w))) ≡ true
     by_numbers s t c d r u x y v w sheet sheets less same below h = grind (arith, nat_tests)
 
+pub copies_land : (area : Rectangle) (to : Place) (es : CellEntries) → list_all (λ n. covers (area_at area to) n.0) (map (copied_entry area to) (within_area es area)) ≡ true
+copies_land area to es =
+    let inside_all = all-filtered (λ (e : Place × Content). covers area e.0) es in
+    all-map (λ (e : Place × Content). covers area e.0) (λ (e : Place × Content). covers area e.0) (λ n. covers (area_at area to) n.0) (copied_entry area to) (λ e h _. lands area to e.0 h) (within_area es area) inside_all inside_all
+
+pub fills_land : (from : Place) (content : Content) (area : Rectangle) → list_all (λ n. covers area n.0) (filled_entries from content area) ≡ true
+fills_land from content area =
+    let every = all_places (covers area) area (λ q c. c) in
+    elim (is_held content) as (λ b. list_all (λ n. covers area n.0) (cond b (moved_entries from content (places area)) []) ≡ true) [
+      | true ↦ all-map (covers area) (covers area) (λ (n : Place × Content). covers area n.0) (λ q. (q, moved_content from q content)) (λ q h _. h) (places area) every every
+      | false ↦ refl
+    ]
+
 pub length-copy : (area : Rectangle) (to : Place) (es : CellEntries) → is_sorted place_cmp es ≡ true → length (after_copy es area to) ≡ length (without_area es (area_at area to)) + length (within_area es area)
 unfolding after_copy
 length-copy area to es sorted =
@@ -79,7 +92,7 @@ length-copy area to es sorted =
     let inside_all = all-filtered (λ (e : Place × Content). covers area e.0) es in
     let news : CellEntries = map (copied_entry area to) from in
     let order : is_sorted place_cmp news ≡ true = sorted-moved place_cmp (covers area) (equal_place area to) (λ e. moved_content e.0 (equal_place area to e.0) e.1) (same_order area to) from inside_all (sorted-filter place_cmp (covers area) es sorted) in
-    let land : list_all (λ n. covers (area_at area to) n.0) news ≡ true = all-map (λ (e : Place × Content). covers area e.0) (λ (e : Place × Content). covers area e.0) (λ n. covers (area_at area to) n.0) (copied_entry area to) (λ e h _. lands area to e.0 h) from inside_all inside_all in
+    let land : list_all (λ n. covers (area_at area to) n.0) news ≡ true = copies_land area to es in
     length-inserts news (without_area es (area_at area to)) order (area_fresh (area_at area to) news es land)
     ∙ ap (λ n. length (without_area es (area_at area to)) + n) (length-map from (copied_entry area to))
 

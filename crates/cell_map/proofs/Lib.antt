@@ -11,3 +11,4 @@ mod Emptying
 pub mod AreaColumns
 pub mod Inserted
 pub mod Copied
+pub mod Shifted

@@ -1,4 +1,4 @@
-ghost use Rattle.std.specs.Prelude.{◌≡◌, ◌≤◌, ◌+◌, ◌↔◌, nat_le, [], true, length, unwrap_or, IfOk, IsTrue, OnOk, OnErr};
+ghost use Rattle.std.specs.Prelude.{◌≡◌, ◌≤◌, ◌+◌, ◌↔◌, nat_le, [], false, true, length, unwrap_or, IfOk, IsTrue, OnOk, OnErr};
 ghost use Rattle.std.specs.List.{All, list_all};
 ghost use Rattle.std.specs.Option.{option_copied};
 ghost use Rattle.calc_model.specs.Books.{IsBook, content_at, formula_count, is_content, is_held, is_place, with_content};
@@ -6,11 +6,14 @@ ghost use Rattle.calc_addr.specs.Places.{places};
 ghost use Rattle.calc_addr.specs.ValidReferences.{is_rectangle};
 ghost use Rattle.calc_model.specs.CellEdits.{after_copy, after_fill, area_at, with_entries, without_area};
 ghost use Rattle.cell_map.specs.Runs.{moved_entries};
+ghost use Rattle.calc_model.specs.Changes.{IsShift};
+ghost use Rattle.calc_model.specs.RowEdits.{cells_after_deletion, cells_after_insertion, is_pushed_out};
 ghost use Rattle.calc_model.specs.Step.{is_edit};
 
 use crate::copies::{area_at, copied_entries, count_within};
+use crate::rows::{Rows, deleted, inserted, is_pushed_out};
 use crate::runs::remove_area;
-use calc_addr::{Area, Cell, NoMemory};
+use calc_addr::{Area, Cell, LAST_SHEET, NoMemory};
 use calc_model::{Content, Edit, Looked, MOST_CELLS, NameTable};
 use std::alloc::Global;
 use std::collections::BTreeMap;
@@ -221,6 +224,71 @@ impl CellMap {
         for cell in area.cells() {
             self.set(cell, content.moved(alloc, from, cell)?)?;
         }
+        Ok(())
+    }
+
+    /// Whether inserted rows would push a cell that isn't empty past the last row. Linear in the cells.
+    pub fn pushes_out(&self, sheet: u8, place: u32, count: u32) -> bool
+        requires { IsShift place count }
+        ensures { result ≡ is_pushed_out sheet place count self.now.cells }
+    {
+        let rows = Rows {
+            sheet,
+            place,
+            count,
+        };
+        is_pushed_out(&self.cells, rows)
+    }
+
+    /// Inserts rows into a sheet. It takes the logarithm of the map for each cell of the book, and is linear
+    /// in the contents. Where memory is refused, the cells are as before.
+    pub fn insert_rows(
+        &mut self,
+        alloc: Global,
+        sheet: u8,
+        place: u32,
+        count: u32,
+    ) -> Result<(), NoMemory>
+        requires sheet { sheet ≤ LAST_SHEET }
+        requires rows { IsShift place count }
+        requires inside { is_pushed_out sheet place count self.old.cells ≡ false }
+        ensures cells { OnOk result
+            (self.new.cells ≡ cells_after_insertion sheet place count self.old.cells) }
+        ensures names { self.new.names ≡ self.old.names }
+        ensures book { IsBook self.new }
+        ensures kept { OnErr result (self.new ≡ self.old) }
+    {
+        let rows = Rows {
+            sheet,
+            place,
+            count,
+        };
+        self.cells = inserted(alloc, &self.cells, rows)?;
+        Ok(())
+    }
+
+    /// Deletes rows of a sheet, at the same cost. Where memory is refused, the cells are as before.
+    pub fn delete_rows(
+        &mut self,
+        alloc: Global,
+        sheet: u8,
+        place: u32,
+        count: u32,
+    ) -> Result<(), NoMemory>
+        requires sheet { sheet ≤ LAST_SHEET }
+        requires rows { IsShift place count }
+        ensures cells { OnOk result
+            (self.new.cells ≡ cells_after_deletion sheet place count self.old.cells) }
+        ensures names { self.new.names ≡ self.old.names }
+        ensures book { IsBook self.new }
+        ensures kept { OnErr result (self.new ≡ self.old) }
+    {
+        let rows = Rows {
+            sheet,
+            place,
+            count,
+        };
+        self.cells = deleted(alloc, &self.cells, rows)?;
         Ok(())
     }
 

@@ -7,7 +7,7 @@ ghost use Rattle.calc_addr.specs.ValidReferences.{is_rectangle};
 ghost use Rattle.calc_model.specs.CellEdits.{area_at, copied_entry, equal_place, within_area};
 ghost use Rattle.cell_map.specs.Runs.{column_at};
 
-use calc_addr::{Area, Cell, NoMemory};
+use calc_addr::{Area, Cell, LAST_COL, LAST_ROW, NoMemory};
 use calc_model::{Content, MOST_CELLS};
 use std::alloc::Global;
 use std::collections::BTreeMap;
@@ -119,7 +119,7 @@ fn equal_place(area: Area, to: Cell, cell: Cell) -> Cell
 }
 
 /// The area of the same size that begins at `to`, which lies inside the sheet.
-pub(crate) fn area_at(area: Area, to: Cell) -> Area
+pub fn area_at(area: Area, to: Cell) -> Area
     requires { is_rectangle (area_at area to) ≡ true }
     ensures { result ≡ area_at area to }
 {
@@ -130,4 +130,12 @@ pub(crate) fn area_at(area: Area, to: Cell) -> Area
         first_row: to.row,
         last_row: to.row + (area.last_row - area.first_row),
     }
+}
+
+/// Whether the area of the same size that begins at `to` lies inside the sheet.
+pub fn lies_inside(area: Area, to: Cell) -> bool
+    ensures { result ≡ is_rectangle (area_at area to) }
+{
+    to.col + (area.last_col - area.first_col) <= LAST_COL
+        && to.row + (area.last_row - area.first_row) <= LAST_ROW
 }

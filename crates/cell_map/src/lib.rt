@@ -6,11 +6,13 @@
 mod cells;
 mod copies;
 mod results;
+mod rows;
 mod runs;
 mod show;
 mod values;
 
 pub use cells::CellMap;
+pub use copies::{area_at, lies_inside};
 pub use results::ResultMap;
 pub use show::{number_shown, show_cell, shown};
 pub use values::ShownCells;

@@ -1,8 +1,0 @@
--- sets of cells
-pub mod Sets
--- the formulas that reach a touched cell
-pub mod Reaching
--- what an edit leaves in the cells that it doesn't touch
-pub mod Contents
--- which formulas are stale after an edit
-pub mod Staleness

@@ -1,0 +1,72 @@
+-- The book after an edit that fits, and the causes of those that don't.
+use Rattle.std.proofs.Common.{◌≡◌, ◌≤◌, ◌≢◌, ℕ, Bool, true, false, ◌&&◌, cond, nat_le, length, refl, sym, ap, ◌∙◌}
+use Rattle.std.specs.Prelude.{Ok, Err, ◌==◌}
+use Rattle.std.proofs.lemmas.Bool.{eq-eqb, le-leb, ne_eqb}
+use Rattle.calc_addr.specs.Places.{Place, Rectangle}
+use Rattle.calc_addr.specs.ValidReferences.{is_rectangle}
+use Rattle.calc_model.specs.declared.limits.TheConstants.{MOST_CELLS}
+use Rattle.calc_model.specs.declared.content.Content.{Content}
+use Rattle.calc_model.specs.declared.edit.Edit.TheVariants.{Set, Clear, Copy, Fill}
+use Rattle.calc_model.specs.declared.edit.EditCause.TheVariants.{OffSheet, CellsFull}
+use Rattle.calc_model.specs.Books.{Book, content_at, with_content}
+use Rattle.calc_model.specs.CellEdits.{CellEntries, after_copy, after_fill, area_at, without_area}
+use Rattle.calc_model.specs.Step.{built_step, if_cells_fit, with_cells}
+
+same_book : (before after : Book) (cells : CellEntries) → after.cells ≡ cells → after.names ≡ before.names → with_cells before cells ≡ after
+same_book before after cells same names =
+    ap (λ (es : CellEntries). with_cells before es) (sym same) ∙ ap (λ names. record after { names = names }) (sym names)
+
+fits : (before after : Book) (cells : CellEntries) → after.cells ≡ cells → after.names ≡ before.names → length cells ≤ MOST_CELLS → if_cells_fit (with_cells before cells) ≡ Ok after
+fits before after cells same names few =
+    ap (λ b. cond b (Ok (with_cells before cells)) (Err CellsFull)) (le-leb (length cells) MOST_CELLS few)
+    ∙ ap Ok (same_book before after cells same names)
+
+full : (before : Book) (cells : CellEntries) → nat_le (length cells) MOST_CELLS ≡ false → if_cells_fit (with_cells before cells) ≡ Err CellsFull
+full before cells many = ap (λ b. cond b (Ok (with_cells before cells)) (Err CellsFull)) many
+
+module _ (before : Book) where
+  pub set_step : (after : Book) (cell : Place) (content : Content) → after.cells ≡ with_content before.cells cell content → after.names ≡ before.names → length (with_content before.cells cell content) ≤ MOST_CELLS → built_step before (Set cell content) ≡ Ok after
+  set_step after cell content = fits before after (with_content before.cells cell content)
+
+  pub set_full : (cell : Place) (content : Content) → nat_le (length (with_content before.cells cell content)) MOST_CELLS ≡ false → built_step before (Set cell content) ≡ Err CellsFull
+  set_full cell content = full before (with_content before.cells cell content)
+
+  pub clear_step : (after : Book) (area : Rectangle) → after.cells ≡ without_area before.cells area → after.names ≡ before.names → built_step before (Clear area) ≡ Ok after
+  clear_step after area same names = ap Ok (same_book before after (without_area before.cells area) same names)
+
+  module _ (area : Rectangle) (to : Place) where
+    on_sheet : to.sheet ≡ area.sheet → is_rectangle (area_at area to) ≡ true → built_step before (Copy area to) ≡ if_cells_fit (with_cells before (after_copy before.cells area to))
+    on_sheet sheets place =
+        ap (λ b. cond (b && is_rectangle (area_at area to)) (if_cells_fit (with_cells before (after_copy before.cells area to))) (Err OffSheet)) (eq-eqb to.sheet area.sheet sheets)
+        ∙ ap (λ b. cond b (if_cells_fit (with_cells before (after_copy before.cells area to))) (Err OffSheet)) place
+
+    pub copy_step : (after : Book) → to.sheet ≡ area.sheet → is_rectangle (area_at area to) ≡ true → after.cells ≡ after_copy before.cells area to → after.names ≡ before.names → length (after_copy before.cells area to) ≤ MOST_CELLS → built_step before (Copy area to) ≡ Ok after
+    copy_step after sheets place same names few = on_sheet sheets place ∙ fits before after (after_copy before.cells area to) same names few
+
+    pub copy_full : to.sheet ≡ area.sheet → is_rectangle (area_at area to) ≡ true → nat_le (length (after_copy before.cells area to)) MOST_CELLS ≡ false → built_step before (Copy area to) ≡ Err CellsFull
+    copy_full sheets place many = on_sheet sheets place ∙ full before (after_copy before.cells area to) many
+
+    pub copy_elsewhere : to.sheet ≢ area.sheet → built_step before (Copy area to) ≡ Err OffSheet
+    copy_elsewhere apart =
+        ap (λ b. cond (b && is_rectangle (area_at area to)) (if_cells_fit (with_cells before (after_copy before.cells area to))) (Err OffSheet)) (ne_eqb to.sheet area.sheet apart)
+
+    pub copy_outside : to.sheet ≡ area.sheet → is_rectangle (area_at area to) ≡ false → built_step before (Copy area to) ≡ Err OffSheet
+    copy_outside sheets out =
+        ap (λ b. cond (b && is_rectangle (area_at area to)) (if_cells_fit (with_cells before (after_copy before.cells area to))) (Err OffSheet)) (eq-eqb to.sheet area.sheet sheets)
+        ∙ ap (λ b. cond b (if_cells_fit (with_cells before (after_copy before.cells area to))) (Err OffSheet)) out
+
+  module _ (from : Place) (area : Rectangle) where
+    abbrev pub filled : CellEntries
+    filled = after_fill before.cells from (content_at before from) area
+
+    in_sheet : from.sheet ≡ area.sheet → built_step before (Fill from area) ≡ if_cells_fit (with_cells before filled)
+    in_sheet sheets = ap (λ b. cond b (if_cells_fit (with_cells before filled)) (Err OffSheet)) (eq-eqb from.sheet area.sheet sheets)
+
+    pub fill_step : (after : Book) → from.sheet ≡ area.sheet → after.cells ≡ filled → after.names ≡ before.names → length filled ≤ MOST_CELLS → built_step before (Fill from area) ≡ Ok after
+    fill_step after sheets same names few = in_sheet sheets ∙ fits before after filled same names few
+
+    pub fill_full : from.sheet ≡ area.sheet → nat_le (length filled) MOST_CELLS ≡ false → built_step before (Fill from area) ≡ Err CellsFull
+    fill_full sheets many = in_sheet sheets ∙ full before filled many
+
+    pub fill_elsewhere : from.sheet ≢ area.sheet → built_step before (Fill from area) ≡ Err OffSheet
+    fill_elsewhere apart = ap (λ b. cond b (if_cells_fit (with_cells before filled)) (Err OffSheet)) (ne_eqb from.sheet area.sheet apart)

@@ -1,0 +1,43 @@
+-- A workbook: its book, the cells that edits touched since the last recalculation, and whether it is dead. A formula
+-- that reaches a touched cell is stale.
+use Rattle.std.specs.Prelude.{◌≡◌, ◌&&◌, Bool, true, Ok, Err}
+use Rattle.calc_addr.specs.Places.{Place}
+use Rattle.calc_model.specs.declared.edit.Edit.{Edit}
+use Rattle.calc_model.specs.declared.edit.Edit.TheVariants.{Set, Clear}
+use Rattle.calc_model.specs.declared.edit.EditCause.{EditCause}
+use Rattle.calc_model.specs.Books.{Book, IsBook}
+use Rattle.calc_model.specs.Stale.{is_formula_cell, reaches, stale_after}
+use Rattle.workbook.specs.BuiltStep.{built_step}
+use Rattle.calc_model.specs.Touched.{CellSet}
+use Rattle.workbook.specs.Touched.{Parts, is_touched}
+
+pub record State : Type 0 where
+  pub book : Book
+  pub touched : Parts
+  pub dead : Bool
+
+-- the formulas that are stale
+unfoldable pub stale_of : State → CellSet
+stale_of state q = is_formula_cell state.book q && reaches state.book (is_touched state.touched) q
+
+-- the formulas that are stale after an edit, by those before it
+abbrev pub Stales : State → Edit → State → Type 0
+Stales before edit after = (q : Place) → stale_of after q ≡ stale_after before.book edit after.book (stale_of before) q
+
+-- the edit was made
+pub record Made (before : State) (edit : Edit) (after : State) : Type 0 where
+  pub step : built_step before.book edit ≡ Ok after.book
+  pub book : IsBook after.book
+  pub stale : Stales before edit after
+  pub alive : after.dead ≡ before.dead
+
+-- the edit is refused, and the workbook is as before
+pub record IsRefused (before : State) (edit : Edit) (cause : EditCause) (after : State) : Type 0 where
+  pub step : built_step before.book edit ≡ Err cause
+  pub kept : after ≡ before
+
+-- memory was refused: the workbook is as before where a cell was to be set or an area cleared, and else it is dead
+abbrev pub AfterNoMemory : State → Edit → State → Type 0
+AfterNoMemory before (Set cell content) after = after ≡ before
+AfterNoMemory before (Clear area) after = after ≡ before
+AfterNoMemory before _ after = after.dead ≡ true

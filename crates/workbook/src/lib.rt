@@ -1,0 +1,12 @@
+//! A workbook as a plain map of cells: edits, which formulas they make stale, and recalculation from
+//! scratch.
+#![tactic(auto)]
+
+mod copies;
+mod fault;
+mod reach;
+mod touched;
+mod workbook;
+
+pub use fault::EditFault;
+pub use workbook::Workbook;

@@ -1,0 +1,188 @@
+//! The cells that edits touched since the last recalculation.
+ghost use Rattle.std.specs.Prelude.{◌≡◌, ◌||◌, true, false, not, IfOk, IfSome, OnOk, OnErr};
+ghost use Rattle.std.specs.BTreeMap.{is_at};
+ghost use Rattle.std.specs.BTreeSet.{insert_key};
+ghost use Rattle.std.specs.Set.{remove_key};
+ghost use Rattle.std.specs.List.{list_any};
+ghost use Rattle.std.specs.Ordering.{eq_by_cmp};
+ghost use Rattle.calc_addr.specs.Places.{Place, covers, place_cmp, places};
+ghost use Rattle.workbook.specs.Touched.{contains_cell, is_touched};
+
+use calc_addr::{Area, Cell, NoMemory};
+use std::alloc::Global;
+use std::collections::BTreeSet;
+use std::marker::Model;
+
+/// Some cells of all sheets. Contracts see its parts; `is_touched` says which cells it has.
+#[derive(Drop)]
+pub(crate) struct Touched {
+    /// It has every cell.
+    all: bool,
+    cells: BTreeSet<Cell>,
+    areas: Vec<Area>,
+}
+
+impl Model for Touched {
+    ghost use Rattle.workbook.specs.Touched.{Parts};
+
+    ghost Value = { Parts };
+
+    ghost view = { λ t. record { all = t.all; cells = t.cells.keys; areas = t.areas.items } };
+}
+
+#[tactic(auto, unfolding(crate::specs::Touched::is_touched), using(crate::proofs::Sets::more))]
+impl Touched {
+    /// Every cell.
+    pub(crate) fn all(alloc: Global) -> Touched
+        ensures { (q : Place) → is_touched result q ≡ true }
+    {
+        Touched {
+            all: true,
+            cells: BTreeSet::new(alloc),
+            areas: Vec::new(alloc),
+        }
+    }
+
+    /// No cell.
+    pub(crate) fn none(alloc: Global) -> Touched
+        ensures { (q : Place) → is_touched result q ≡ false }
+    {
+        Touched {
+            all: false,
+            cells: BTreeSet::new(alloc),
+            areas: Vec::new(alloc),
+        }
+    }
+
+    /// Adds the cell, and answers whether it wasn't among the single cells.
+    pub(crate) fn add_cell(&mut self, cell: Cell) -> Result<bool, NoMemory>
+        ensures touched { OnOk result ((q : Place) →
+            is_touched self.new q ≡ (is_touched self.old q || eq_by_cmp place_cmp cell q)) }
+        ensures parts { OnOk result
+            (self.new ≡ record self.old { cells = insert_key place_cmp self.old.cells cell }) }
+        ensures added { IfOk result (λ added. added ≡ not (contains_cell self.old.cells cell)) }
+        ensures there { IfOk result (λ added. added ≡ false → self.new ≡ self.old) }
+        ensures err { OnErr result (self.new ≡ self.old) }
+    {
+        let added = self.cells.insert(cell)?;
+        Ok(added)
+    }
+
+    /// Takes the cell out of the single cells.
+    pub(crate) fn remove_cell(&mut self, cell: Cell)
+        ensures { self.new
+            ≡ record self.old { cells = remove_key (is_at (place_cmp cell)) self.old.cells } }
+    {
+        self.cells.remove(&cell);
+    }
+
+    /// Adds the cells of the area: a single cell among these, and else the area.
+    pub(crate) fn add_area(&mut self, area: Area) -> Result<(), NoMemory>
+        ensures touched { OnOk result ((q : Place) →
+            is_touched self.new q ≡ (is_touched self.old q || covers area q)) }
+        ensures err { OnErr result (self.new ≡ self.old) }
+    {
+        match only_cell(area) {
+            Some(cell) => {
+                self.add_cell(cell)?;
+            }
+            None => self.areas.push(area)?,
+        }
+        Ok(())
+    }
+
+    /// Whether it has the cell. Linear in its areas.
+    pub(crate) fn has(&self, cell: Cell) -> bool
+        ensures { result ≡ is_touched self.now cell }
+    {
+        self.all || self.cells.contains(&cell) || is_covered(&self.areas, cell)
+    }
+
+    /// Whether it has a cell of the area. Linear in its areas, and in the lesser of its single cells and
+    /// the area's cells.
+    pub(crate) fn has_cell_in(&self, area: Area) -> bool
+        ensures { result ≡ list_any (is_touched self.now) (places area) }
+    {
+        // Where it has every cell, it has the first one.
+        if self.has(area.corner()) {
+            return true;
+        }
+        if has_cell_in(&self.cells, area) {
+            return true;
+        }
+        is_any_met(&self.areas, area)
+    }
+}
+
+/// The cell of an area that has one.
+fn only_cell(area: Area) -> Option<Cell>
+    ensures { IfSome result (λ cell. (q : Place) → covers area q ≡ eq_by_cmp place_cmp cell q) }
+{
+    if area.first_col == area.last_col && area.first_row == area.last_row {
+        Some(area.corner())
+    } else {
+        None
+    }
+}
+
+/// Whether one of the areas has the cell.
+fn is_covered(areas: &[Area], cell: Cell) -> bool
+    ensures { result ≡ list_any (λ area. covers area cell) areas.now }
+{
+    areas.iter().any(|area| area.covers(cell))
+}
+
+/// Whether one of the areas has a cell of this one.
+fn is_any_met(areas: &[Area], area: Area) -> bool
+    ensures { result ≡ list_any (λ other. list_any (covers other) (places area)) areas.now }
+{
+    areas.iter().any(|other| do_meet(*other, area))
+}
+
+/// Whether the areas have a cell in common: then both cover the cell at the later of their first columns
+/// and the later of their first rows.
+fn do_meet(a: Area, b: Area) -> bool
+    ensures { result ≡ list_any (covers a) (places b) }
+{
+    let cell = Cell {
+        sheet: a.sheet,
+        col: a.first_col.max(b.first_col),
+        row: a.first_row.max(b.first_row),
+    };
+    a.covers(cell) && b.covers(cell)
+}
+
+/// Whether the set has a cell of the area. Linear in the lesser of the set and the area's cells.
+pub(crate) fn has_cell_in(set: &BTreeSet<Cell>, area: Area) -> bool
+    ensures { result ≡ list_any (contains_cell set.now.keys) (places area) }
+{
+    if area.cell_count() < set.len() as u64 {
+        has_any_of(set, area)
+    } else {
+        is_any_covered(set, area)
+    }
+}
+
+/// Whether a cell of the area is in the set.
+fn has_any_of(set: &BTreeSet<Cell>, area: Area) -> bool
+    ensures { result ≡ list_any (contains_cell set.now.keys) (places area) }
+{
+    for cell in area.cells() {
+        if set.contains(&cell) {
+            return true;
+        }
+    }
+    false
+}
+
+/// Whether a cell of the set is in the area.
+fn is_any_covered(set: &BTreeSet<Cell>, area: Area) -> bool
+    ensures { result ≡ list_any (contains_cell set.now.keys) (places area) }
+{
+    for cell in set {
+        if area.covers(*cell) {
+            return true;
+        }
+    }
+    false
+}

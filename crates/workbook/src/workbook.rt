@@ -1,0 +1,217 @@
+//! A workbook as a plain map of cells.
+ghost use Rattle.std.specs.Prelude.{◌≡◌, ◌≤◌, ◌↔◌, [], length, IfOk, IsErrOf, OnOk, OnErr, false, true};
+ghost use Rattle.calc_addr.specs.Places.{Place};
+ghost use Rattle.calc_model.specs.Books.{formula_count, with_content};
+ghost use Rattle.calc_model.specs.Results.{ShowsAll};
+ghost use Rattle.calc_model.specs.Stale.{count_in, is_formula_cell};
+ghost use Rattle.workbook.specs.BuiltStep.{built_step};
+ghost use Rattle.cell_map.specs.ResultMap.{results_of};
+ghost use Rattle.calc_model.specs.declared.edit.EditCause.{EditCause};
+ghost use Rattle.workbook.specs.Touched.{contains_cell};
+ghost use Rattle.workbook.specs.Workbook.{AfterNoMemory, IsRefused, Made, stale_of};
+
+use crate::fault::EditFault;
+use crate::reach::reached;
+use crate::touched::Touched;
+use calc_addr::{Area, Cell, NoMemory};
+use calc_model::{Content, Edit, EditCause, MOST_CELLS};
+use cell_map::{CellMap, ResultMap};
+use plain_evaluator::evaluate;
+use std::alloc::Global;
+use std::collections::BTreeSet;
+use std::marker::Model;
+
+/// A book as a plain map of its cells, what edits touched since the last recalculation, and whether it is
+/// dead. Contracts see all three; `stale_of` says which formulas are stale.
+#[derive(Drop)]
+pub struct Workbook {
+    pub(crate) cells: CellMap,
+    pub(crate) touched: Touched,
+    dead: bool,
+}
+
+impl Model for Workbook {
+    ghost use Rattle.calc_model.specs.declared.edit.EditCause.{EditCause};
+    ghost use Rattle.workbook.specs.Touched.{contains_cell};
+    ghost use Rattle.workbook.specs.Workbook.{State};
+    ghost use Rattle.calc_model.specs.contracts.tree.Tree as coded_tree;
+    ghost use Rattle.std.specs.Coded.{codes};
+
+    ghost Value = { State };
+
+    ghost coded = { Prim.hlevel (codes, coded_tree.the_row.coded) };
+
+    ghost view = { λ w. record { book = w.cells; touched = w.touched; dead = w.dead } };
+}
+
+impl Workbook {
+    /// The workbook without cells and names.
+    pub fn new(alloc: Global) -> Workbook
+        ensures cells { result.book.cells ≡ [] }
+        ensures names { result.book.names ≡ [] }
+        ensures stale { (q : Place) → stale_of result q ≡ false }
+        ensures alive { result.dead ≡ false }
+    {
+        Workbook {
+            cells: CellMap::new(alloc),
+            touched: Touched::none(alloc),
+            dead: false,
+        }
+    }
+
+    /// The workbook of these cells, whose formulas are all stale.
+    pub fn load(alloc: Global, cells: CellMap) -> Workbook
+        ensures book { result.book ≡ cells }
+        ensures stale { (q : Place) → stale_of result q ≡ is_formula_cell cells q }
+        ensures alive { result.dead ≡ false }
+    {
+        Workbook {
+            cells,
+            touched: Touched::all(alloc),
+            dead: false,
+        }
+    }
+
+    /// What each cell that isn't empty holds.
+    pub fn cells(&self) -> &CellMap
+        ensures { result.now ≡ self.now.book }
+    {
+        &self.cells
+    }
+
+    /// Whether memory was refused in the midst of an edit. A dead workbook takes no edit.
+    pub fn is_dead(&self) -> bool
+        ensures { result ≡ self.now.dead }
+    {
+        self.dead
+    }
+
+    /// How many cells aren't empty.
+    pub fn cell_count(&self) -> usize
+        ensures { result ≡ length self.now.book.cells }
+    {
+        self.cells.len()
+    }
+
+    /// How many cells hold a formula. Linear in the cells.
+    pub fn formula_count(&self) -> usize
+        ensures { result ≡ formula_count self.now.book }
+    {
+        self.cells.formula_count()
+    }
+
+    /// Makes an edit. To set a cell takes the logarithm of the cells, and to clear an area that for each of
+    /// its columns and each cell that it empties. To copy an area takes the logarithm for each column and
+    /// each cell, and to fill one that for each cell. Row edits take it for each cell of the book, and are
+    /// linear in what formulas read. Edits of names and `Make` are still refused.
+    pub fn edit(&mut self, alloc: Global, edit: &Edit) -> Result<(), EditFault>
+        ensures done { OnOk result (Made self.old edit.now self.new) }
+        ensures refused { (cause : EditCause) → IsErrOf result (EditFault.Refused cause) →
+            IsRefused self.old edit.now cause self.new }
+        ensures dead { IsErrOf result EditFault.Dead ↔ (self.old.dead ≡ true) }
+        ensures kept { self.old.dead ≡ true → self.new ≡ self.old }
+        ensures no_memory { IsErrOf result EditFault.NoMemory →
+            AfterNoMemory self.old edit.now self.new }
+    {
+        if self.dead {
+            return Err(EditFault::Dead);
+        }
+        match edit {
+            Edit::Set { cell, content } => self.set(alloc, *cell, content),
+            Edit::Clear { area } => self.clear(*area),
+            Edit::Copy { area, to } => self.copy(alloc, *area, *to),
+            Edit::Fill { from, area } => self.fill(alloc, *from, *area),
+            _ => Err(EditFault::Refused(EditCause::NotBuilt)),
+        }
+    }
+
+    fn set(&mut self, alloc: Global, cell: Cell, content: &Content) -> Result<(), EditFault>
+        ensures done { OnOk result (Made self.old (Edit.Set cell content.now) self.new) }
+        ensures refused { (cause : EditCause) → IsErrOf result (EditFault.Refused cause) →
+            IsRefused self.old (Edit.Set cell content.now) cause self.new }
+        ensures no_memory { IsErrOf result EditFault.NoMemory → self.new ≡ self.old }
+        ensures not_dead { IsErrOf result EditFault.Dead → ⊥ }
+    {
+        if !self.cells.has_room(cell, content) {
+            return Err(EditFault::Refused(EditCause::CellsFull));
+        }
+        match self.put(alloc, cell, content) {
+            Ok(()) => Ok(()),
+            Err(_) => Err(EditFault::NoMemory),
+        }
+    }
+
+    /// Sets a cell to a copy of the content.
+    fn put(&mut self, alloc: Global, cell: Cell, content: &Content) -> Result<(), NoMemory>
+        requires room { length (with_content self.old.book.cells cell content.now) ≤ MOST_CELLS }
+        ensures done { OnOk result (Made self.old (Edit.Set cell content.now) self.new) }
+        ensures kept { OnErr result (self.new ≡ self.old) }
+    {
+        let content = content.copy(alloc)?;
+        let added = self.touched.add_cell(cell)?;
+        match self.cells.set(cell, content) {
+            Ok(()) => Ok(()),
+            Err(refused) => {
+                if added {
+                    self.touched.remove_cell(cell);
+                    return Err(refused);
+                }
+                Err(refused)
+            }
+        }
+    }
+
+    fn clear(&mut self, area: Area) -> Result<(), EditFault>
+        ensures done { OnOk result (Made self.old (Edit.Clear area) self.new) }
+        ensures refused { (cause : EditCause) → IsErrOf result (EditFault.Refused cause) → ⊥ }
+        ensures no_memory { IsErrOf result EditFault.NoMemory → self.new ≡ self.old }
+        ensures not_dead { IsErrOf result EditFault.Dead → ⊥ }
+    {
+        match self.touched.add_area(area) {
+            Ok(()) => {
+                self.cells.clear(area);
+                Ok(())
+            }
+            Err(_) => Err(EditFault::NoMemory),
+        }
+    }
+
+    /// Dies of want of memory.
+    pub(crate) fn die(&mut self) -> EditFault
+        ensures fault { result ≡ EditFault.NoMemory }
+        ensures dead { self.new.dead ≡ true }
+    {
+        self.dead = true;
+        EditFault::NoMemory
+    }
+
+    /// How many formulas are stale. It takes two sweeps over the formulas, and more only where reading goes
+    /// in circles.
+    pub fn stale_count(&self, alloc: Global) -> Result<usize, NoMemory>
+        ensures { IfOk result (λ count. count ≡ count_in self.now.book (stale_of self.now)) }
+    {
+        let found = reached(alloc, &self.cells, &self.touched)?;
+        Ok(count_found(&self.cells, &found))
+    }
+
+    /// The results of all formulas, evaluated from scratch. None is stale afterwards. Where memory is
+    /// refused, the workbook is as before.
+    pub fn recalculate(&mut self, alloc: Global) -> Result<ResultMap, NoMemory>
+        ensures shows { IfOk result (λ results. ShowsAll self.new.book (results_of results)) }
+        ensures book { self.new.book ≡ self.old.book }
+        ensures stale { OnOk result ((q : Place) → stale_of self.new q ≡ false) }
+        ensures alive { self.new.dead ≡ self.old.dead }
+        ensures kept { OnErr result (self.new ≡ self.old) }
+    {
+        let results = evaluate(alloc, &self.cells)?;
+        self.touched = Touched::none(alloc);
+        Ok(results)
+    }
+}
+
+/// How many cells of the map are in the set.
+fn count_found(cells: &CellMap, found: &BTreeSet<Cell>) -> usize
+    ensures { result ≡ count_in cells.now (contains_cell found.now.keys) }
+{
+    cells.iter().filter(|entry| found.contains(entry.0)).count()
+}
