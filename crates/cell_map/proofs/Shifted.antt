@@ -66,6 +66,7 @@ module _ (sheet place count : ℕ) where
       neither : (b c : Bool) → (b || c) ≡ false → (b ≡ false) × (c ≡ false)
       neither true c h = cc
       neither false c h = (refl, h)
+
       low : nat_lt 1048576 (home_after_insertion sheet place count q).row ≡ false → q.sheet ≡ sheet → row_after_insertion place count q.row ≤ 1048576
       low not_past on =
           let moved : (home_after_insertion sheet place count q).row ≡ row_after_insertion place count q.row = ap (λ b. (cond b (record q { row = row_after_insertion place count q.row }) q).row) (eq-eqb q.sheet sheet on) in

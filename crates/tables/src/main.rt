@@ -21,5 +21,9 @@ fn main(rt: HostRuntime) -> Result<ExitCode, anyhow::Error> {
             }
         }
     }
-    Ok(if all_hold { ExitCode::SUCCESS } else { ExitCode::FAILURE })
+    Ok(if all_hold {
+        ExitCode::SUCCESS
+    } else {
+        ExitCode::FAILURE
+    })
 }

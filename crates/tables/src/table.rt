@@ -6,8 +6,11 @@ use std::alloc::{AllocError, Global};
 
 /// What begins a line of a book, of a script and of what is printed, and the line that ends a row.
 const BOOK: &[u8] = b"book   ";
+
 const SCRIPT: &[u8] = b"script ";
+
 const PRINTS: &[u8] = b"prints ";
+
 const STATUS: &[u8] = b"status ";
 
 /// The most bytes that a run may write.
@@ -61,7 +64,10 @@ fn push_line(text: &mut Vec<u8>, line: &[u8]) -> Result<(), AllocError> {
 /// Runs the rows of a table. A line that begins as none of a row does is a comment.
 pub(crate) fn run_rows(alloc: Global, table: &[u8]) -> Result<Outcome, AllocError> {
     let mut row = Row::new(alloc);
-    let mut outcome = Outcome { rows: 0, failed: None };
+    let mut outcome = Outcome {
+        rows: 0,
+        failed: None,
+    };
     for line in lines(table) {
         if let Some(rest) = line.strip_prefix(BOOK) {
             push_line(&mut row.book, rest)?;
