@@ -6,11 +6,8 @@ use std::alloc::{AllocError, Global};
 
 /// What begins a line of a book, of a script and of what is printed, and the line that ends a row.
 const BOOK: &[u8] = b"book   ";
-
 const SCRIPT: &[u8] = b"script ";
-
 const PRINTS: &[u8] = b"prints ";
-
 const STATUS: &[u8] = b"status ";
 
 /// The most bytes that a run may write.
@@ -24,11 +21,13 @@ struct Row {
     prints: Vec<u8>,
 }
 
-/// How many rows of a table were run, and the number of the first one that doesn't hold.
+/// How many rows of a table were run, how many of them don't hold, and what the first of these prints.
 #[derive(Drop)]
 pub(crate) struct Outcome {
     pub(crate) rows: u64,
-    pub(crate) failed: Option<u64>,
+    pub(crate) failed: u64,
+    pub(crate) first_failed: u64,
+    pub(crate) printed: Vec<u8>,
 }
 
 impl Row {
@@ -40,14 +39,17 @@ impl Row {
         }
     }
 
-    /// Whether the run of the row prints what it says and ends with that status.
-    fn holds(self, alloc: Global, status: &[u8]) -> Result<bool, AllocError> {
+    /// What the run of the row prints, unless it is what the row says, with that status.
+    fn failure(self, alloc: Global, status: &[u8]) -> Result<Option<Vec<u8>>, AllocError> {
         let name = Text::of(String::from_str(alloc, "book")?);
         let words = vec![in alloc; name.copy(alloc)?]?;
         let mut desk = SteadyDesk::new(vec![in alloc; (name, self.book)]?, self.script);
         let mut sink = SteadySink::new(alloc, ROOM)?;
         let ended = run(alloc, &words, &mut desk, &mut sink);
-        Ok(sink.written() == self.prints.as_slice() && is_number(ended, status))
+        if sink.written() == self.prints.as_slice() && is_number(ended, status) {
+            return Ok(None);
+        }
+        Ok(Some(Vec::from_slice(alloc, sink.written())?))
     }
 }
 
@@ -66,7 +68,9 @@ pub(crate) fn run_rows(alloc: Global, table: &[u8]) -> Result<Outcome, AllocErro
     let mut row = Row::new(alloc);
     let mut outcome = Outcome {
         rows: 0,
-        failed: None,
+        failed: 0,
+        first_failed: 0,
+        printed: Vec::new(alloc),
     };
     for line in lines(table) {
         if let Some(rest) = line.strip_prefix(BOOK) {
@@ -79,8 +83,12 @@ pub(crate) fn run_rows(alloc: Global, table: &[u8]) -> Result<Outcome, AllocErro
             outcome.rows = outcome.rows.wrapping_add(1);
             let whole = row;
             row = Row::new(alloc);
-            if !whole.holds(alloc, status)? && outcome.failed.is_none() {
-                outcome.failed = Some(outcome.rows);
+            if let Some(printed) = whole.failure(alloc, status)? {
+                if outcome.failed == 0 {
+                    outcome.first_failed = outcome.rows;
+                    outcome.printed = printed;
+                }
+                outcome.failed = outcome.failed.wrapping_add(1);
             }
         }
     }
