@@ -20,10 +20,6 @@ zip-append [] us (y ∷ ys) vs e = absurd (omega (arith, e))
 zip-append (x ∷ xs) us [] vs e = absurd (omega (arith, e))
 zip-append (x ∷ xs) us (y ∷ ys) vs e = ap (λ zs. (x, y) ∷ zs) (zip-append xs us ys vs (omega (arith, e)))
 
-pub zip-none : {A B : Type 0} (xs : List A) → zip xs (let none : List B = [] in none) ≡ []
-zip-none [] = refl
-zip-none (x ∷ xs) = refl
-
 pub take-replicate : {A : Type 0} (n m : ℕ) (x : A) → n ≤ m → take n (replicate m x) ≡ replicate n x
 take-replicate n m x h =
     let e : n + (m - n) ≡ m = omega (arith, h) in

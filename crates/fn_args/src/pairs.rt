@@ -19,8 +19,8 @@ pub(crate) struct PiecePair<'a> {
     pub second: Piece<'a>,
 }
 
-/// The pairs of values of two areas that are still to come, in area order. Contracts see their list, which is as
-/// long as the shorter area.
+/// The pairs of values of two areas that are still to come, in area order. Contracts see their list, which is
+/// as long as the shorter area.
 #[derive(Drop)]
 pub(crate) struct PiecePairs<'a, V: Values> {
     values: &'a V,

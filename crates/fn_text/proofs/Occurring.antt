@@ -161,11 +161,6 @@ module _ (sought characters rest : List ℕ) (start : ℕ) (some : 1 ≤ start) 
       none-from (λ place. starts_with nat_eq (drop (place - 1) characters) sought) start (length characters + 1 + 1 - start)
       (λ k below. at_place k ∙ none k (omega (arith, ap length left, length-drop (start - 1) characters, below, some)))
 
-pub place-past : (sought characters : List ℕ) (start : ℕ) → length characters < start - 1 → place_of sought characters start ≡ None
-place-past sought characters start past =
-    let none : length characters + 1 + 1 - start ≡ 0 = omega (arith, past) in
-    ap (λ n. find (λ place. starts_with nat_eq (drop (place - 1) characters) sought) (range_with_len start n)) none
-
 -- FIND takes two parameters or three
 module _ (home : Place) (v : CellValues) where
   pub too-few : (args : List Arg) → length args < 2 → Bad BadValue ≡ find_ (meanings_of home v args)

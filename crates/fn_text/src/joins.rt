@@ -97,8 +97,8 @@ fn repeated_often(alloc: Global, words: &str, count: u64) -> Result<Value, NoMem
     Ok(Value::Words(whole))
 }
 
-/// CONCATENATE: texts joined from left to right. All parameters are taken first, and no byte is joined past the
-/// most that a text can have.
+/// CONCATENATE: texts joined from left to right. All parameters are taken first, and no byte is joined past
+/// the most that a text can have.
 pub fn fn_concatenate<V: Values>(
     alloc: Global,
     args: &[Arg],
