@@ -50,6 +50,8 @@ built_step book (Set cell content) = step book (Set cell content)
 built_step book (Clear area) = step book (Clear area)
 built_step book (Copy area to) = step book (Copy area to)
 built_step book (Fill from area) = step book (Fill from area)
+built_step book (InsertRows sheet place count) = step book (InsertRows sheet place count)
+built_step book (DeleteRows sheet place count) = step book (DeleteRows sheet place count)
 built_step book _ = Err NotBuilt
 
 -- an edit whose cells, areas and contents are what they can be

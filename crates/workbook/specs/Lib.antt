@@ -1,3 +1,4 @@
 pub mod Touched
 pub mod Reach
+pub mod Rows
 pub mod Workbook
