@@ -69,7 +69,8 @@ fn make_edit(
     match workbook.edit(alloc, edit) {
         Ok(()) => Ok(accept(Vec::new(alloc))),
         Err(EditFault::Refused(cause)) => refuse(alloc, number, Cause::Edit(cause)),
-        Err(EditFault::NoMemory) => Err(AllocError),
+        // A workbook is dead after want of memory alone.
+        Err(EditFault::Dead | EditFault::NoMemory) => Err(AllocError),
     }
 }
 

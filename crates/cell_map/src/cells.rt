@@ -7,6 +7,7 @@ ghost use Rattle.calc_addr.specs.ValidReferences.{is_rectangle};
 ghost use Rattle.calc_model.specs.CellEdits.{after_copy, after_fill, area_at, with_entries, without_area};
 ghost use Rattle.cell_map.specs.Runs.{moved_entries};
 ghost use Rattle.calc_model.specs.Changes.{IsShift};
+ghost use Rattle.calc_model.specs.NamedAreas.{names_after_deletion, names_after_insertion};
 ghost use Rattle.calc_model.specs.RowEdits.{cells_after_deletion, cells_after_insertion, is_pushed_out};
 ghost use Rattle.calc_model.specs.Step.{is_edit};
 
@@ -255,6 +256,8 @@ impl CellMap {
         ensures cells { OnOk result
             (self.new.cells ≡ cells_after_insertion sheet place count self.old.cells) }
         ensures names { self.new.names ≡ self.old.names }
+        ensures areas { names_after_insertion sheet place count self.old.names ≡ self.old.names }
+        ensures was_book { IsBook self.old }
         ensures book { IsBook self.new }
         ensures kept { OnErr result (self.new ≡ self.old) }
     {
@@ -280,6 +283,8 @@ impl CellMap {
         ensures cells { OnOk result
             (self.new.cells ≡ cells_after_deletion sheet place count self.old.cells) }
         ensures names { self.new.names ≡ self.old.names }
+        ensures areas { names_after_deletion sheet place count self.old.names ≡ self.old.names }
+        ensures was_book { IsBook self.old }
         ensures book { IsBook self.new }
         ensures kept { OnErr result (self.new ≡ self.old) }
     {

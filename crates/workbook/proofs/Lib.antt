@@ -4,6 +4,9 @@ pub mod Sets
 pub mod Reaching
 -- what an edit leaves in the cells that it doesn't touch
 pub mod Contents
+-- the book after an edit
 pub mod Steps
 -- which formulas are stale after an edit
 pub mod Staleness
+-- what row edits leave
+pub mod RowChanges

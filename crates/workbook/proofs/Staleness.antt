@@ -26,7 +26,7 @@ module _ (before after : Book) (unnamed : after.names ≡ before.names) (edited 
   unfolding entry_named
   same_names = ap (λ names name. looked_up (find (slice_cmp nat_cmp) (str_to_ascii_uppercase name) names)) unnamed
 
-  reads_kept : (q : Place) → edited q ≡ false → reads after q ≡ reads before q
+  pub reads_kept : (q : Place) → edited q ≡ false → reads after q ≡ reads before q
   reads_kept q apart =
       ap (λ names. content_areas q names (content_at after q)) (same_names)
       ∙ ap (content_areas q (area_named before)) (same q apart)
@@ -109,21 +109,21 @@ unfolding stale_of
 stale_more before after edited names same joined q =
     stale_joined before.book after.book (is_touched before.touched) edited (is_touched after.touched) (reads_kept before.book after.book names edited same) (λ q apart. ap is_formula (same q apart)) joined q
 
-swap_stale : (formula was moved reached : Bool) → (reached ≡ false → moved ≡ was) → (formula && (was || reached)) ≡ (formula && (moved || reached))
+swap_stale : (formula was moved reached : Bool) → (formula ≡ true → reached ≡ false → moved ≡ was) → (formula && (was || reached)) ≡ (formula && (moved || reached))
 swap_stale false was moved reached same = refl
 swap_stale true was moved true same = or_true was ∙ sym (or_true moved)
   where
     or_true : (b : Bool) → (b || true) ≡ true
     or_true true = refl
     or_true false = refl
-swap_stale true was moved false same = ap (λ b. b || false) (sym (same refl))
+swap_stale true was moved false same = ap (λ b. b || false) (sym (same refl refl))
 
 -- a workbook in which cells that an edit doesn't touch stay where they were, and read what they read
-pub stale_moved : (before after : State) (edit : Edit) (edited : CellSet) → ((q : Place) → edited q ≡ false → reads after.book q ≡ reads before.book q) → ((q : Place) → edited q ≡ false → is_formula_cell after.book q ≡ is_formula_cell before.book q) → ((q : Place) → edited q ≡ false → origin edit q ≡ Some q) → ((q : Place) → is_touched after.touched q ≡ (is_touched before.touched q || edited q)) → (q : Place) → stale_of after q ≡ (is_formula_cell after.book q && (moved edit (stale_of before) q || reaches after.book edited q))
+pub stale_moved : (before after : State) (edit : Edit) (edited : CellSet) → ((q : Place) → edited q ≡ false → reads after.book q ≡ reads before.book q) → ((q : Place) → edited q ≡ false → is_formula_cell after.book q ≡ is_formula_cell before.book q) → ((q : Place) → is_formula_cell after.book q ≡ true → edited q ≡ false → origin edit q ≡ Some q) → ((q : Place) → is_touched after.touched q ≡ (is_touched before.touched q || edited q)) → (q : Place) → stale_of after q ≡ (is_formula_cell after.book q && (moved edit (stale_of before) q || reaches after.book edited q))
 unfolding stale_of
 stale_moved before after edit edited same_reads same_formula stays joined q =
     stale_joined before.book after.book (is_touched before.touched) edited (is_touched after.touched) same_reads same_formula joined q
-    ∙ swap_stale (is_formula_cell after.book q) (stale_of before q) (moved edit (stale_of before) q) (reaches after.book edited q) (λ apart. ap (λ o. option_map_or (stale_of before) o false) (stays q (not_edited apart)))
+    ∙ swap_stale (is_formula_cell after.book q) (stale_of before q) (moved edit (stale_of before) q) (reaches after.book edited q) (λ formula apart. ap (λ o. option_map_or (stale_of before) o false) (stays q formula (not_edited apart)))
   where
     not_edited : reaches after.book edited q ≡ false → edited q ≡ false
     not_edited apart = false_from_ne_true (edited q) (λ is. let reached : reaches after.book edited q ≡ true = reaches_at_all after.book edited q (Reaches.itself is) in cc)

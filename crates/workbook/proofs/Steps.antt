@@ -1,15 +1,19 @@
 -- The book after an edit that fits, and the causes of those that don't.
-use Rattle.std.proofs.Common.{◌≡◌, ◌≤◌, ◌≢◌, ℕ, Bool, true, false, ◌&&◌, cond, nat_le, length, refl, sym, ap, ◌∙◌}
+use Rattle.std.proofs.Common.{◌≡◌, ◌≤◌, ◌≢◌, ℕ, Bool, true, false, ◌&&◌, not, cond, nat_le, arith, length, refl, sym, ap, ◌∙◌}
 use Rattle.std.specs.Prelude.{Ok, Err, ◌==◌}
 use Rattle.std.proofs.lemmas.Bool.{eq-eqb, le-leb, ne_eqb}
 use Rattle.calc_addr.specs.Places.{Place, Rectangle}
 use Rattle.calc_addr.specs.ValidReferences.{is_rectangle}
 use Rattle.calc_model.specs.declared.limits.TheConstants.{MOST_CELLS}
 use Rattle.calc_model.specs.declared.content.Content.{Content}
-use Rattle.calc_model.specs.declared.edit.Edit.TheVariants.{Set, Clear, Copy, Fill}
-use Rattle.calc_model.specs.declared.edit.EditCause.TheVariants.{OffSheet, CellsFull}
+use Rattle.calc_model.specs.declared.edit.Edit.TheVariants.{Set, Clear, Copy, Fill, InsertRows, DeleteRows}
+use Rattle.calc_model.specs.declared.edit.EditCause.TheVariants.{OffSheet, RowsFull, CellsFull}
 use Rattle.calc_model.specs.Books.{Book, content_at, with_content}
 use Rattle.calc_model.specs.CellEdits.{CellEntries, after_copy, after_fill, area_at, without_area}
+use Rattle.calc_model.specs.Changes.{IsShift}
+use Rattle.calc_model.specs.NamedAreas.{names_after_deletion, names_after_insertion}
+use Rattle.calc_model.specs.RowEdits.{are_rows, cells_after_deletion, cells_after_insertion, is_pushed_out}
+use Rattle.std.proofs.lemmas.Bool.Decides.{nat_tests}
 use Rattle.calc_model.specs.Step.{built_step, if_cells_fit, with_cells}
 
 same_book : (before after : Book) (cells : CellEntries) → after.cells ≡ cells → after.names ≡ before.names → with_cells before cells ≡ after
@@ -70,3 +74,36 @@ module _ (before : Book) where
 
     pub fill_elsewhere : from.sheet ≢ area.sheet → built_step before (Fill from area) ≡ Err OffSheet
     fill_elsewhere apart = ap (λ b. cond b (if_cells_fit (with_cells before filled)) (Err OffSheet)) (ne_eqb from.sheet area.sheet apart)
+
+  module _ (sheet place count : ℕ) where
+    abbrev pub inserted : Book
+    inserted = record { cells = cells_after_insertion sheet place count before.cells; names = names_after_insertion sheet place count before.names }
+
+    abbrev pub deleted : Book
+    deleted = record { cells = cells_after_deletion sheet place count before.cells; names = names_after_deletion sheet place count before.names }
+
+    same_parts : (first second : Book) → second.cells ≡ first.cells → second.names ≡ first.names → first ≡ second
+    same_parts first second cells names = ap (λ (es : CellEntries). record first { cells = es }) (sym cells) ∙ ap (λ names. record second { names = names }) (sym names)
+
+    pub insert_step : (after : Book) → are_rows sheet place count ≡ true → is_pushed_out sheet place count before.cells ≡ false → after.cells ≡ inserted.cells → after.names ≡ inserted.names → built_step before (InsertRows sheet place count) ≡ Ok after
+    insert_step after rows inside cells names =
+        ap (λ b. cond (not b) (Err OffSheet) (cond (is_pushed_out sheet place count before.cells) (Err RowsFull) (Ok inserted))) rows
+        ∙ ap (λ b. cond b (Err RowsFull) (Ok inserted)) inside
+        ∙ ap Ok (same_parts inserted after cells names)
+
+    pub insert_outside : are_rows sheet place count ≡ false → built_step before (InsertRows sheet place count) ≡ Err OffSheet
+    insert_outside rows = ap (λ b. cond (not b) (Err OffSheet) (cond (is_pushed_out sheet place count before.cells) (Err RowsFull) (Ok inserted))) rows
+
+    pub insert_full : are_rows sheet place count ≡ true → is_pushed_out sheet place count before.cells ≡ true → built_step before (InsertRows sheet place count) ≡ Err RowsFull
+    insert_full rows out =
+        ap (λ b. cond (not b) (Err OffSheet) (cond (is_pushed_out sheet place count before.cells) (Err RowsFull) (Ok inserted))) rows
+        ∙ ap (λ b. cond b (Err RowsFull) (Ok inserted)) out
+
+    pub delete_step : (after : Book) → are_rows sheet place count ≡ true → after.cells ≡ deleted.cells → after.names ≡ deleted.names → built_step before (DeleteRows sheet place count) ≡ Ok after
+    delete_step after rows cells names = ap (λ b. cond (not b) (Err OffSheet) (Ok deleted)) rows ∙ ap Ok (same_parts deleted after cells names)
+
+    pub delete_outside : are_rows sheet place count ≡ false → built_step before (DeleteRows sheet place count) ≡ Err OffSheet
+    delete_outside rows = ap (λ b. cond (not b) (Err OffSheet) (Ok deleted)) rows
+
+pub are_shift : (sheet place count : ℕ) → are_rows sheet place count ≡ true → (sheet ≤ 15) × IsShift place count
+are_shift sheet place count h = (grind (arith, nat_tests), record { from = grind (arith, nat_tests); some = grind (arith, nat_tests); to = grind (arith, nat_tests) })

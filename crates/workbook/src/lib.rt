@@ -5,6 +5,7 @@
 mod copies;
 mod fault;
 mod reach;
+mod row_edits;
 mod touched;
 mod workbook;
 

@@ -121,6 +121,16 @@ impl Workbook {
             Edit::Clear { area } => self.clear(*area),
             Edit::Copy { area, to } => self.copy(alloc, *area, *to),
             Edit::Fill { from, area } => self.fill(alloc, *from, *area),
+            Edit::InsertRows {
+                sheet,
+                place,
+                count,
+            } => self.insert_rows(alloc, *sheet, *place, *count),
+            Edit::DeleteRows {
+                sheet,
+                place,
+                count,
+            } => self.delete_rows(alloc, *sheet, *place, *count),
             _ => Err(EditFault::Refused(EditCause::NotBuilt)),
         }
     }

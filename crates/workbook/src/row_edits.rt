@@ -1,0 +1,217 @@
+//! Inserted and deleted rows.
+ghost use Rattle.std.specs.Prelude.{◌≡◌, ◌≤◌, ◌||◌, false, true, IsErrOf, OnOk};
+ghost use Rattle.std.specs.List.{list_any};
+ghost use Rattle.calc_addr.specs.Places.{Place, covers};
+ghost use Rattle.calc_model.specs.Reads.{reads};
+ghost use Rattle.calc_model.specs.Changes.{IsChange};
+ghost use Rattle.calc_model.specs.RowEdits.{are_rows, has_rows_of, is_pushed_out};
+ghost use Rattle.calc_model.specs.Touched.{rows_from};
+ghost use Rattle.calc_model.specs.declared.edit.EditCause.{EditCause};
+ghost use Rattle.workbook.specs.Rows.{changes_area, is_reader_of};
+ghost use Rattle.workbook.specs.Touched.{is_touched};
+ghost use Rattle.workbook.specs.Workbook.{IsRefused, Made};
+
+use crate::fault::EditFault;
+use crate::touched::Touched;
+use crate::workbook::Workbook;
+use calc_addr::{
+    Area, LAST_COL, LAST_ROW, LAST_SHEET, NoMemory, delete_row_area, insert_row_area,
+};
+use calc_model::{Change, Edit, EditCause};
+use plain_evaluator::{Reader, readers};
+use std::alloc::Global;
+
+impl Workbook {
+    pub(crate) fn insert_rows(
+        &mut self,
+        alloc: Global,
+        sheet: u8,
+        place: u32,
+        count: u32,
+    ) -> Result<(), EditFault>
+        ensures done { OnOk result (Made self.old (Edit.InsertRows sheet place count) self.new) }
+        ensures refused { (cause : EditCause) → IsErrOf result (EditFault.Refused cause) →
+            IsRefused self.old (Edit.InsertRows sheet place count) cause self.new }
+        ensures no_memory { IsErrOf result EditFault.NoMemory → self.new.dead ≡ true }
+        ensures not_dead { IsErrOf result EditFault.Dead → ⊥ }
+    {
+        if !are_rows(sheet, place, count) {
+            return Err(EditFault::Refused(EditCause::OffSheet));
+        }
+        if self.cells.pushes_out(sheet, place, count) {
+            return Err(EditFault::Refused(EditCause::RowsFull));
+        }
+        match self.make_insertion(alloc, sheet, place, count) {
+            Ok(()) => Ok(()),
+            Err(_) => Err(self.die()),
+        }
+    }
+
+    fn make_insertion(
+        &mut self,
+        alloc: Global,
+        sheet: u8,
+        place: u32,
+        count: u32,
+    ) -> Result<(), NoMemory>
+        requires rows { are_rows sheet place count ≡ true }
+        requires inside { is_pushed_out sheet place count self.old.book.cells ≡ false }
+        ensures { OnOk result (Made self.old (Edit.InsertRows sheet place count) self.new) }
+    {
+        let change = Change::Inserted {
+            sheet,
+            place,
+            count,
+        };
+        self.touch_rows(alloc, sheet, place, change)?;
+        self.cells.insert_rows(alloc, sheet, place, count)
+    }
+
+    pub(crate) fn delete_rows(
+        &mut self,
+        alloc: Global,
+        sheet: u8,
+        place: u32,
+        count: u32,
+    ) -> Result<(), EditFault>
+        ensures done { OnOk result (Made self.old (Edit.DeleteRows sheet place count) self.new) }
+        ensures refused { (cause : EditCause) → IsErrOf result (EditFault.Refused cause) →
+            IsRefused self.old (Edit.DeleteRows sheet place count) cause self.new }
+        ensures no_memory { IsErrOf result EditFault.NoMemory → self.new.dead ≡ true }
+        ensures not_dead { IsErrOf result EditFault.Dead → ⊥ }
+    {
+        if !are_rows(sheet, place, count) {
+            return Err(EditFault::Refused(EditCause::OffSheet));
+        }
+        match self.make_deletion(alloc, sheet, place, count) {
+            Ok(()) => Ok(()),
+            Err(_) => Err(self.die()),
+        }
+    }
+
+    fn make_deletion(
+        &mut self,
+        alloc: Global,
+        sheet: u8,
+        place: u32,
+        count: u32,
+    ) -> Result<(), NoMemory>
+        requires rows { are_rows sheet place count ≡ true }
+        ensures { OnOk result (Made self.old (Edit.DeleteRows sheet place count) self.new) }
+    {
+        let change = Change::Deleted {
+            sheet,
+            place,
+            count,
+        };
+        self.touch_rows(alloc, sheet, place, change)?;
+        self.cells.delete_rows(alloc, sheet, place, count)
+    }
+
+    /// Touches the cells of a sheet from a row on, and the formulas that read an area that changes.
+    fn touch_rows(
+        &mut self,
+        alloc: Global,
+        sheet: u8,
+        place: u32,
+        change: Change,
+    ) -> Result<(), NoMemory>
+        requires sheet { sheet ≤ LAST_SHEET }
+        requires from { 1 ≤ place }
+        requires to { place ≤ LAST_ROW }
+        requires change { IsChange change }
+        ensures book { self.new.book ≡ self.old.book }
+        ensures alive { self.new.dead ≡ self.old.dead }
+        ensures touched { OnOk result ((q : Place) → is_touched self.new.touched q
+            ≡ (is_touched self.old.touched q || (covers (rows_from sheet place) q
+            || list_any (changes_area change) (reads self.old.book q)))) }
+    {
+        let readers = readers(alloc, &self.cells)?;
+        let area = Area {
+            sheet,
+            first_col: 1,
+            last_col: LAST_COL,
+            first_row: place,
+            last_row: LAST_ROW,
+        };
+        self.touched.add_area(area)?;
+        touch_readers(&mut self.touched, &readers, change)
+    }
+}
+
+/// Touches the readers of areas that change.
+fn touch_readers(
+    touched: &mut Touched,
+    readers: &[Reader],
+    change: Change,
+) -> Result<(), NoMemory>
+    requires { IsChange change }
+    ensures { OnOk result ((q : Place) → is_touched touched.new q
+        ≡ (is_touched touched.old q || list_any (is_reader_of (changes_area change) q) readers.now)) }
+{
+    for reader in readers {
+        touch_reader(touched, reader, change)?;
+    }
+    Ok(())
+}
+
+/// Touches the formula where it reads an area that changes.
+fn touch_reader(touched: &mut Touched, reader: &Reader, change: Change) -> Result<(), NoMemory>
+    requires { IsChange change }
+    ensures { OnOk result ((q : Place) → is_touched touched.new q
+        ≡ (is_touched touched.old q || is_reader_of (changes_area change) q reader.now)) }
+{
+    if is_any_changed(reader.areas(), change) {
+        touched.add_cell(reader.cell())?;
+    }
+    Ok(())
+}
+
+/// Whether one of the areas changes.
+fn is_any_changed(areas: &[Area], change: Change) -> bool
+    requires { IsChange change }
+    ensures { result ≡ list_any (changes_area change) areas.now }
+{
+    areas.iter().any(|area| is_changed(*area, change))
+}
+
+/// Whether the area changes, or is deleted.
+fn is_changed(area: Area, change: Change) -> bool
+    requires { IsChange change }
+    ensures { result ≡ changes_area change area }
+{
+    match change {
+        Change::Inserted {
+            sheet,
+            place,
+            count,
+        } => { area.sheet == sheet && !has_rows_of(area, insert_row_area(area, place, count)) }
+        Change::Deleted {
+            sheet,
+            place,
+            count,
+        } => { area.sheet == sheet && !has_rows_of(area, delete_row_area(area, place, count)) }
+        Change::Stays | Change::Moves { .. } => false,
+    }
+}
+
+/// Whether what became of the area is that area.
+fn has_rows_of(area: Area, to: Option<Area>) -> bool
+    ensures { result ≡ has_rows_of area to }
+{
+    match to {
+        Some(to) => to.first_row == area.first_row && to.last_row == area.last_row,
+        None => false,
+    }
+}
+
+/// Whether the rows of a sheet are some, and lie in it.
+fn are_rows(sheet: u8, place: u32, count: u32) -> bool
+    ensures { result ≡ are_rows sheet place count }
+{
+    sheet <= LAST_SHEET
+        && 1 <= place
+        && 1 <= count
+        && count <= LAST_ROW
+        && place <= LAST_ROW + 1 - count
+}
