@@ -1,15 +1,16 @@
 -- Scanning a run of numbers up to the first that ends a search, and values that aren't of the sought kind.
 use Rattle.std.proofs.Common.{◌≡◌, ℕ, ℤ, pos, zero, suc, ◌+◌, ◌<◌, ◌≤◌, Bool, true, false, not, cond, List, [], ◌∷◌, ◌++◌, drop, get_or, length, ltb, map, replicate, take, Option, Some, None, refl, sym, ap, ◌∙◌, arith}
-use Rattle.std.specs.Prelude.{fold, position}
+use Rattle.std.specs.Prelude.{fold, int_lt, position}
 use Rattle.std.specs.Option.{unwrap_or}
 use Rattle.std.specs.List.{position_or_len}
-use Rattle.std.specs.Ordering.{int_cmp}
+use Rattle.std.specs.Ordering.{int_cmp, is_gt, is_lt}
+use Rattle.std.proofs.lemmas.Int.{ints}
 use Rattle.std.specs.declared.cmp.Ordering.{Ordering}
 use Rattle.std.specs.declared.cmp.Ordering.TheVariants.{Less, Equal, Greater}
 use Rattle.std.proofs.lemmas.Bool.{cond_both, false≢true, ltb-false}
 use Rattle.std.proofs.lemmas.List.{drop_more, get_or-map, get_or-replicate, get_or-take, length-map, length-replicate, length-take-le, map-append, take-append-drop}
 use Rattle.std.proofs.lemmas.List.Folds.{fold_stays}
-use Rattle.std.proofs.lemmas.List.Sums.{fold-append, fails_before_first, passes_at_first, prefix_len-le-length}
+use Rattle.std.proofs.lemmas.List.Sums.{fold-append, fails_before_first, passes_at_first, position_or_len_is, prefix_len-le-length}
 use Rattle.calc_model.specs.Criteria.{order_in_kind}
 use Rattle.calc_model.specs.declared.value.Value.{Value}
 use Rattle.calc_model.specs.declared.value.Value.TheVariants.{Number, Words, Blank}
@@ -93,6 +94,21 @@ first-or-all p xs =
     cond_both (ltb (position_or_len p xs) (length xs)) (Some (position_or_len p xs)) None (λ o. unwrap_or o (length xs) ≡ position_or_len p xs)
     (λ _. refl)
     (λ none. omega (arith, ltb-false (position_or_len p xs) (length xs) none, prefix_len-le-length (λ x. not (p x)) xs))
+
+-- the same first place by two tests that agree
+pub same-place : (p q : ℤ → Bool) → ((n : ℤ) → p n ≡ q n) → (items : List ℤ) → position p items ≡ position q items
+same-place p q agree items =
+    let first : position_or_len p items ≡ position_or_len q items =
+    position_or_len_is p items (position_or_len q items) (pos 0) (prefix_len-le-length (λ n. not (q n)) items)
+    (λ k below. agree (get_or items k (pos 0)) ∙ fails_before_first q items k (pos 0) below)
+    (λ inside. agree (get_or items (position_or_len q items) (pos 0)) ∙ passes_at_first q items (pos 0) inside) in
+    ap (λ n. cond (ltb n (length items)) (Some n) None) first
+
+pub is-below : (n m : ℤ) → int_lt n m ≡ is_lt (int_cmp n m)
+is-below n m = grind (arith, ints)
+
+pub is-above : (n m : ℤ) → int_lt m n ≡ is_gt (int_cmp n m)
+is-above n m = grind (arith, ints)
 
 pub first-within : (search : Search) (sought : ℤ) (items : List ℤ) (count : ℕ) → count ≡ position_or_len (ends_at search sought) items → count ≤ length items
 first-within search sought items count first = omega (arith, first, prefix_len-le-length (λ n. not (ends_at search sought n)) items)

@@ -1,7 +1,7 @@
 //! Searches along the values of a line of cells, a piece at a time.
-ghost use Rattle.std.specs.Prelude.{◌≡◌, ◌+◌, ◌≤◌, ◌<◌, false, fold, length, map, position, None, IfSome};
+ghost use Rattle.std.specs.Prelude.{◌≡◌, ◌+◌, ◌≤◌, ◌<◌, false, fold, int_lt, length, map, position, None, IfSome};
 ghost use Rattle.std.specs.List.{position_or_len};
-ghost use Rattle.std.specs.Ordering.{int_cmp, is_eq, is_gt, is_lt};
+ghost use Rattle.std.specs.Ordering.{int_cmp, is_eq};
 ghost use Rattle.calc_model.specs.Meanings.{values_in};
 ghost use Rattle.calc_model.specs.Search.{place_by};
 ghost use Rattle.calc_model.specs.UsedCells.{values_of};
@@ -195,15 +195,15 @@ fn place_equal(items: &[i64], sought: i64) -> Option<usize>
 }
 
 fn place_above(items: &[i64], sought: i64) -> Option<usize>
-    ensures { result ≡ position (λ n. is_gt (int_cmp n sought)) items.now }
+    ensures { result ≡ position (λ n. int_lt sought n) items.now }
 {
-    items.iter().position(|item| item.cmp(&sought).is_gt())
+    items.iter().position(|item| *item > sought)
 }
 
 fn place_below(items: &[i64], sought: i64) -> Option<usize>
-    ensures { result ≡ position (λ n. is_lt (int_cmp n sought)) items.now }
+    ensures { result ≡ position (λ n. int_lt n sought) items.now }
 {
-    items.iter().position(|item| item.cmp(&sought).is_lt())
+    items.iter().position(|item| *item < sought)
 }
 
 /// The same for a sought number of any size.
