@@ -22,5 +22,9 @@ fn main(rt: HostRuntime) -> Result<ExitCode, anyhow::Error> {
             println!(rt; "row {} prints\n{printed}", outcome.first_failed)?;
         }
     }
-    Ok(if all_hold { ExitCode::SUCCESS } else { ExitCode::FAILURE })
+    Ok(if all_hold {
+        ExitCode::SUCCESS
+    } else {
+        ExitCode::FAILURE
+    })
 }

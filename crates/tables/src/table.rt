@@ -6,8 +6,11 @@ use std::alloc::{AllocError, Global};
 
 /// What begins a line of a book, of a script and of what is printed, and the line that ends a row.
 const BOOK: &[u8] = b"book   ";
+
 const SCRIPT: &[u8] = b"script ";
+
 const PRINTS: &[u8] = b"prints ";
+
 const STATUS: &[u8] = b"status ";
 
 /// The most bytes that a run may write.

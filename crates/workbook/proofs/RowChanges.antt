@@ -207,6 +207,7 @@ module _ (before after : Book) (sheet place count : ℕ) (was : IsBook before) (
     where
       out_of_rows : (q : Place) → is_from_row sheet place q ≡ false → is_in_rows sheet place count q ≡ false
       out_of_rows q above = grind (arith, nat_tests)
+
       find_left : (q : Place) → is_from_row sheet place q ≡ false → find place_cmp q (filter (λ e. not (is_in_rows sheet place count e.0)) before.cells) ≡ find place_cmp q before.cells
       find_left q above =
           find-lookup place_cmp q (filter (λ e. not (is_in_rows sheet place count e.0)) before.cells)
