@@ -14,8 +14,8 @@ use crate::status::{
 use crate::written::write_all;
 use calc_io::{DeviceFault, Sink};
 use cell_map::CellMap;
-use workbook::Workbook;
 use std::alloc::Global;
+use workbook::Workbook;
 
 /// Ends a run by what the desk gave: writes the output, and answers the status.
 pub(crate) fn finish<K: Sink>(alloc: Global, inputs: Inputs, sink: &mut K) -> u8

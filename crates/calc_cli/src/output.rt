@@ -15,8 +15,8 @@ use crate::written::write_all;
 use calc_addr::NoMemory;
 use calc_io::{DeviceFault, Sink};
 use calc_script::{lines, read_line};
-use workbook::Workbook;
 use std::alloc::Global;
+use workbook::Workbook;
 
 /// Writes what the lines of a script write, one after the other, and answers whether one is refused.
 pub(crate) fn write_output<K: Sink>(

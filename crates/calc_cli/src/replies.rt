@@ -12,8 +12,8 @@ use calc_addr::{Area, NoMemory};
 use calc_model::Edit;
 use calc_script::{Cause, Command, Line};
 use itoa::Buffer;
-use workbook::{EditFault, Workbook};
 use std::alloc::{AllocError, Global};
+use workbook::{EditFault, Workbook};
 
 /// What a line writes, and whether it is refused.
 #[derive(Drop)]

@@ -1,13 +1,11 @@
 -- The entries of an area in order: those of its columns one after the other.
-use Rattle.std.proofs.Common.{◌≡◌, ◌+◌, ◌≤◌, ◌<◌, length, ◌⊎◌, inl, inr, ℕ, Bool, true, false, ◌&&◌, ◌||◌, not, cond, nat_le, nat_lt, List, [], ◌∷◌, ◌++◌, refl, sym, ap, subst, ◌∙◌, arith}
-use Rattle.std.specs.Prelude.{◌==◌}
+use Rattle.std.proofs.Common.{◌≡◌, ◌+◌, ◌≤◌, ◌<◌, length, inl, inr, ℕ, Bool, true, false, ◌&&◌, ◌||◌, not, cond, nat_lt, [], ◌∷◌, ◌++◌, refl, sym, ap, subst, ◌∙◌, arith}
 use Rattle.std.specs.List.{filter, list_all}
 use Rattle.std.specs.Ordering.{is_le, is_lt}
 use Rattle.std.specs.FinMap.Entries.{below_all, is_sorted}
 use Rattle.std.proofs.lemmas.Bool.Decides.{nat_tests}
 use Rattle.std.proofs.Common.{length-append}
 use Rattle.calc_addr.specs.Places.{Place, Rectangle, covers, place_cmp}
-use Rattle.calc_model.specs.declared.content.Content.{Content}
 use Rattle.calc_model.specs.CellEdits.{CellEntries, within_area}
 use Rattle.calc_model.specs.Touched.{CellSet}
 use Rattle.calc_model.proofs.Areas.{Inside, both_true, covered, inside}
@@ -88,13 +86,14 @@ one_column area col q from to = agree _ _ onward back
         elim (nat_lt q.col col) as (λ b. nat_lt q.col col ≡ b → ((covers area q && b) || covers (column_at area col) q) ≡ true) [
           | true ↦ λ _. or_first (covers area q && true) _ (ap (λ b. b && true) parts.0)
           | false ↦ λ no. or_second (covers area q && false) _ (covered (column_at area col) q (record {
-              same_sheet = at.same_sheet;
-              col_from = grind (arith, nat_tests, no);
-              col_to = grind (arith, nat_tests, parts.1);
-              row_from = at.row_from;
-              row_to = at.row_to;
-            }))
+            same_sheet = at.same_sheet;
+            col_from = grind (arith, nat_tests, no);
+            col_to = grind (arith, nat_tests, parts.1);
+            row_from = at.row_from;
+            row_to = at.row_to;
+          }))
         ] refl
+
     back : (is_left area col q || covers (column_at area col) q) ≡ true → is_left area (col + 1) q ≡ true
     back h =
         elim (either (is_left area col q) (covers (column_at area col) q) h) [
@@ -135,8 +134,10 @@ in_column area col start end q from to = agree _ _ onward back
   where
     first : Place
     first = record { sheet = area.sheet; col = col; row = area.first_row }
+
     last : Place
     last = record { sheet = area.sheet; col = col; row = area.last_row }
+
     within : is_le (place_cmp first q) ≡ true → not (is_lt (place_cmp last q)) ≡ true → covers (column_at area col) q ≡ true
     within above below = covered (column_at area col) q (record {
       same_sheet = grind (arith, nat_tests);
@@ -145,14 +146,18 @@ in_column area col start end q from to = agree _ _ onward back
       row_from = grind (arith, nat_tests);
       row_to = grind (arith, nat_tests);
     })
+
     onward : (is_le (place_cmp start q) && not (is_lt (place_cmp end q))) ≡ true → covers (column_at area col) q ≡ true
     onward h =
         let both = both_true (is_le (place_cmp first q)) (not (is_lt (place_cmp last q))) (subst (λ p. (is_le (place_cmp p q) && not (is_lt (place_cmp last q))) ≡ true) from (subst (λ p. (is_le (place_cmp start q) && not (is_lt (place_cmp p q))) ≡ true) to h)) in
         within both.0 both.1
+
     above : Inside (column_at area col) q → is_le (place_cmp first q) ≡ true
     above at = grind (arith, nat_tests, at.same_sheet, at.col_from, at.col_to, at.row_from)
+
     below : Inside (column_at area col) q → not (is_lt (place_cmp last q)) ≡ true
     below at = grind (arith, nat_tests, at.same_sheet, at.col_from, at.col_to, at.row_to)
+
     back : covers (column_at area col) q ≡ true → (is_le (place_cmp start q) && not (is_lt (place_cmp end q))) ≡ true
     back h =
         let at : Inside (column_at area col) q = inside (column_at area col) q h in

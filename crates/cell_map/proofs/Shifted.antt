@@ -1,10 +1,9 @@
 -- Cells that go with rows, one after the other: each comes behind those before it.
-use Rattle.std.proofs.Common.{◌≡◌, ◌≤◌, ◌&&◌, ◌||◌, not, ℕ, Bool, true, false, cond, nat_lt, List, [], ◌∷◌, ◌++◌, map, refl, sym, ap, subst, ◌∙◌, arith, append_assoc}
-use Rattle.std.specs.Prelude.{◌==◌}
-use Rattle.std.specs.List.{filter, list_all, list_any}
+use Rattle.std.proofs.Common.{◌≡◌, ◌≤◌, ◌||◌, not, ℕ, Bool, true, false, cond, nat_lt, List, [], ◌∷◌, ◌++◌, map, refl, sym, ap, subst, ◌∙◌, arith, append_assoc}
+use Rattle.std.specs.List.{filter, list_all}
 use Rattle.std.specs.BTreeMap.{insert_entry}
 use Rattle.std.specs.Ordering.{is_lt, match_ordering}
-use Rattle.std.specs.declared.cmp.Ordering.TheVariants.{Less, Equal, Greater}
+use Rattle.std.specs.declared.cmp.Ordering.TheVariants.{Greater}
 use Rattle.std.specs.FinMap.Entries.{below_all, is_sorted}
 use Rattle.std.proofs.lemmas.Bool.{eq-eqb}
 use Rattle.std.proofs.lemmas.Bool.Decides.{nat_tests}
@@ -66,6 +65,7 @@ module _ (sheet place count : ℕ) where
       neither : (b c : Bool) → (b || c) ≡ false → (b ≡ false) × (c ≡ false)
       neither true c h = cc
       neither false c h = (refl, h)
+
       low : nat_lt 1048576 (home_after_insertion sheet place count q).row ≡ false → q.sheet ≡ sheet → row_after_insertion place count q.row ≤ 1048576
       low not_past on =
           let moved : (home_after_insertion sheet place count q).row ≡ row_after_insertion place count q.row = ap (λ b. (cond b (record q { row = row_after_insertion place count q.row }) q).row) (eq-eqb q.sheet sheet on) in

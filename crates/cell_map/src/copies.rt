@@ -15,11 +15,7 @@ use std::collections::btree_map::Range;
 
 /// What the cells of one column of an area hold that aren't empty, downwards. It takes the logarithm of
 /// the map.
-fn column_entries(
-    cells: &BTreeMap<Cell, Content>,
-    area: Area,
-    col: u16,
-) -> Range<'_, Cell, Content>
+fn column_entries(cells: &BTreeMap<Cell, Content>, area: Area, col: u16) -> Range<'_, Cell, Content>
     requires first { area.first_col ≤ col }
     requires last { col ≤ area.last_col }
     ensures entries { result ≡ within_area cells.now.entries (column_at area col) }

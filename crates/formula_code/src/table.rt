@@ -18,7 +18,9 @@ use crate::kept::Kept;
 use crate::slots::Slots;
 use crate::token::Tokens;
 use calc_addr::{Cell, NoMemory};
-use calc_model::{Change, CodeId, Ear, MOST_TOKENS, NameTable, Tree, home_after_deletion, home_after_insertion};
+use calc_model::{
+    Change, CodeId, Ear, MOST_TOKENS, NameTable, Tree, home_after_deletion, home_after_insertion,
+};
 use std::alloc::Global;
 use std::marker::Model;
 

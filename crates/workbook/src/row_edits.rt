@@ -14,9 +14,7 @@ ghost use Rattle.workbook.specs.Workbook.{IsRefused, Made};
 use crate::fault::EditFault;
 use crate::touched::Touched;
 use crate::workbook::Workbook;
-use calc_addr::{
-    Area, LAST_COL, LAST_ROW, LAST_SHEET, NoMemory, delete_row_area, insert_row_area,
-};
+use calc_addr::{Area, LAST_COL, LAST_ROW, LAST_SHEET, NoMemory, delete_row_area, insert_row_area};
 use calc_model::{Change, Edit, EditCause};
 use plain_evaluator::{Reader, readers};
 use std::alloc::Global;
@@ -140,11 +138,7 @@ impl Workbook {
 }
 
 /// Touches the readers of areas that change.
-fn touch_readers(
-    touched: &mut Touched,
-    readers: &[Reader],
-    change: Change,
-) -> Result<(), NoMemory>
+fn touch_readers(touched: &mut Touched, readers: &[Reader], change: Change) -> Result<(), NoMemory>
     requires { IsChange change }
     ensures { OnOk result ((q : Place) → is_touched touched.new q
         ≡ (is_touched touched.old q || list_any (is_reader_of (changes_area change) q) readers.now)) }
