@@ -1,13 +1,11 @@
 -- The entries of an area in order: those of its columns one after the other.
-use Rattle.std.proofs.Common.{◌≡◌, ◌+◌, ◌≤◌, ◌<◌, length, ◌⊎◌, inl, inr, ℕ, Bool, true, false, ◌&&◌, ◌||◌, not, cond, nat_le, nat_lt, List, [], ◌∷◌, ◌++◌, refl, sym, ap, subst, ◌∙◌, arith}
-use Rattle.std.specs.Prelude.{◌==◌}
+use Rattle.std.proofs.Common.{◌≡◌, ◌+◌, ◌≤◌, ◌<◌, length, inl, inr, ℕ, Bool, true, false, ◌&&◌, ◌||◌, not, cond, nat_lt, [], ◌∷◌, ◌++◌, refl, sym, ap, subst, ◌∙◌, arith}
 use Rattle.std.specs.List.{filter, list_all}
 use Rattle.std.specs.Ordering.{is_le, is_lt}
 use Rattle.std.specs.FinMap.Entries.{below_all, is_sorted}
 use Rattle.std.proofs.lemmas.Bool.Decides.{nat_tests}
 use Rattle.std.proofs.Common.{length-append}
 use Rattle.calc_addr.specs.Places.{Place, Rectangle, covers, place_cmp}
-use Rattle.calc_model.specs.declared.content.Content.{Content}
 use Rattle.calc_model.specs.CellEdits.{CellEntries, within_area}
 use Rattle.calc_model.specs.Touched.{CellSet}
 use Rattle.calc_model.proofs.Areas.{Inside, both_true, covered, inside}

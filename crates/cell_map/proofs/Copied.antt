@@ -1,5 +1,5 @@
 -- Copied and filled contents: they aren't empty, and how many cells there are with them.
-use Rattle.std.proofs.Common.{◌≡◌, ◌≤◌, ◌<◌, ◌+◌, ◌-◌, ℕ, Bool, true, false, ◌&&◌, not, cond, nat_le, suc, List, [], ◌∷◌, length, map, refl, sym, ap, subst, ◌∙◌, arith}
+use Rattle.std.proofs.Common.{◌≡◌, ◌≤◌, ◌<◌, ◌+◌, ◌-◌, ℕ, true, false, cond, suc, [], length, map, refl, sym, ap, ◌∙◌, arith}
 use Rattle.std.specs.List.{list_all}
 use Rattle.std.specs.BTreeMap.{insert_entry, is_at}
 use Rattle.std.specs.Map.{remove_entry}
@@ -13,10 +13,9 @@ use Rattle.calc_model.specs.declared.limits.TheConstants.{MOST_CELLS}
 use Rattle.calc_model.specs.declared.content.Content.{Content}
 use Rattle.calc_model.specs.declared.content.Content.TheVariants.{Empty, Constant, Formula, Raw}
 use Rattle.calc_model.specs.Books.{is_cell_entry, is_content, is_held, is_place, with_content}
-use Rattle.calc_model.specs.CellEdits.{CellEntries, after_copy, after_fill, area_at, copied_entry, equal_place, filled_entries, moved_content, with_entries, with_tree, within_area, without_area}
+use Rattle.calc_model.specs.CellEdits.{CellEntries, after_copy, after_fill, area_at, copied_entry, equal_place, filled_entries, moved_content, with_entries, within_area, without_area}
 use Rattle.calc_model.proofs.Areas.{Inside, all_places, both_true, covered, inside}
 use Rattle.calc_model.proofs.BooksKept.{longer_by_one}
-use Rattle.calc_model.proofs.EntriesKept.{both_so}
 use Rattle.calc_model.proofs.EntriesMoved.{all-filter, all-filtered, all-map, sorted-filter, sorted-moved}
 use Rattle.cell_map.specs.Runs.{moved_entries}
 use Rattle.cell_map.proofs.Inserted.{area_fresh, length-inserts, rising-sorted}

@@ -1,12 +1,12 @@
 -- How many entries there are with several more, at keys where there were none.
-use Rattle.std.proofs.Common.{◌≡◌, ◌≤◌, ◌+◌, ◌-◌, ℕ, suc, Bool, true, false, ◌&&◌, not, cond, List, [], ◌∷◌, length, map, refl, sym, ap, subst, ◌∙◌, arith}
-use Rattle.std.specs.List.{AllByRecursion, filter, list_all}
+use Rattle.std.proofs.Common.{◌≡◌, ◌≤◌, ◌+◌, suc, Bool, true, false, not, cond, List, [], ◌∷◌, length, map, refl, ap, subst, arith}
+use Rattle.std.specs.List.{AllByRecursion, list_all}
 use Rattle.std.specs.BTreeMap.{insert_entry}
 use Rattle.std.specs.Ordering.{eq_by_cmp, is_eq, is_lt, match_ordering}
 use Rattle.std.specs.declared.cmp.Ordering.TheVariants.{Less, Equal, Greater}
 use Rattle.std.specs.FinMap.Entries.{below_all, is_sorted}
 use Rattle.std.proofs.lemmas.Bool.Decides.{nat_tests}
-use Rattle.calc_addr.specs.Places.{IsBefore, Place, Rectangle, covers, place_cmp, places}
+use Rattle.calc_addr.specs.Places.{IsBefore, Place, Rectangle, covers, place_cmp}
 use Rattle.calc_addr.proofs.Walking.Places.{Rises}
 use Rattle.calc_model.specs.declared.content.Content.{Content}
 use Rattle.calc_model.specs.CellEdits.{CellEntries, with_entries, within_area, without_area}

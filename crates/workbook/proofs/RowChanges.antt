@@ -1,5 +1,5 @@
 -- What inserted and deleted rows leave: cells that they don't touch stay where they are and hold what they held.
-use Rattle.std.proofs.Common.{◌≡◌, ◌<◌, ◌≤◌, ◌+◌, ◌-◌, nat_le, ℕ, Bool, true, false, ◌&&◌, ◌||◌, not, cond, List, [], ◌∷◌, map, Option, Some, None, unwrap_or, refl, sym, ap, subst, ◌∙◌, ◌⊎◌, inl, inr, arith}
+use Rattle.std.proofs.Common.{◌≡◌, ◌<◌, ◌+◌, ◌-◌, nat_le, ℕ, Bool, true, false, ◌&&◌, ◌||◌, not, cond, List, [], ◌∷◌, map, Option, Some, None, unwrap_or, refl, sym, ap, subst, ◌∙◌, ◌⊎◌, inl, inr, arith}
 use Rattle.std.specs.Prelude.{◌==◌}
 use Rattle.std.specs.List.{AllByRecursion, filter, list_all, list_any}
 use Rattle.std.specs.Option.{option_map}
@@ -17,7 +17,7 @@ use Rattle.calc_model.specs.declared.content.Content.TheVariants.{Empty, Constan
 use Rattle.calc_model.specs.Books.{Book, IsBook, area_named, content_at, is_cell_entry, is_content, is_formula, is_place}
 use Rattle.calc_model.specs.CellEdits.{CellEntries, with_tree}
 use Rattle.calc_model.specs.Homes.{home_after_deletion, home_after_insertion}
-use Rattle.calc_model.specs.Reads.{areas, content_areas, reads}
+use Rattle.calc_model.specs.Reads.{content_areas, reads}
 use Rattle.calc_model.specs.RowEdits.{cells_after_deletion, cells_after_insertion, is_changed_by_deletion, is_changed_by_insertion, is_in_rows}
 use Rattle.calc_model.specs.Stale.{is_formula_cell}
 use Rattle.calc_model.specs.Touched.{CellSet, is_from_row, origin, reads_any, rows_from}

@@ -1,6 +1,6 @@
 -- The book after an edit that fits, and the causes of those that don't.
-use Rattle.std.proofs.Common.{◌≡◌, ◌≤◌, ◌≢◌, ℕ, Bool, true, false, ◌&&◌, not, cond, nat_le, arith, length, refl, sym, ap, ◌∙◌}
-use Rattle.std.specs.Prelude.{Ok, Err, ◌==◌}
+use Rattle.std.proofs.Common.{◌≡◌, ◌≤◌, ◌≢◌, ℕ, true, false, ◌&&◌, not, cond, nat_le, arith, length, sym, ap, ◌∙◌}
+use Rattle.std.specs.Prelude.{Ok, Err}
 use Rattle.std.proofs.lemmas.Bool.{eq-eqb, le-leb, ne_eqb}
 use Rattle.calc_addr.specs.Places.{Place, Rectangle}
 use Rattle.calc_addr.specs.ValidReferences.{is_rectangle}

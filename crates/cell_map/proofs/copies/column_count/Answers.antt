@@ -1,4 +1,4 @@
-use Rattle.std.proofs.Common.{◌≡◌, ◌≤◌, ◌+◌, length, ap, arith}
+use Rattle.std.proofs.Common.{◌≤◌, length, ap, arith}
 use Rattle.calc_addr.specs.Places.{covers}
 use Rattle.calc_model.specs.CellEdits.{CellEntries}
 use Rattle.calc_model.proofs.EntriesMoved.{length-filter}

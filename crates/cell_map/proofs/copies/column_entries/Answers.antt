@@ -1,9 +1,7 @@
-use Rattle.std.proofs.Common.{◌≡◌, true, ap, subst, sym, ◌∙◌, refl}
+use Rattle.std.proofs.Common.{◌≡◌, true, ap, subst, sym, ◌∙◌}
 use Rattle.std.specs.List.{list_all}
-use Rattle.calc_addr.specs.Places.{Place, Rectangle, covers}
-use Rattle.calc_model.specs.declared.content.Content.{Content}
+use Rattle.calc_addr.specs.Places.{Rectangle, covers}
 use Rattle.calc_model.specs.CellEdits.{CellEntries, within_area}
-use Rattle.calc_model.proofs.EntriesMoved.{all-filter, all-filtered, all-map}
 use Rattle.cell_map.specs.Runs.{column_at}
 use Rattle.cell_map.proofs.AreaColumns.{column_inside, in_column, same_filter}
 use Rattle.cell_map.proofs.copies.column_entries.Goals as goal

@@ -1,8 +1,7 @@
-use Rattle.std.proofs.Common.{◌≡◌, ◌≤◌, ◌<◌, ◌+◌, ◌^◌, ℕ, length, sym, ap, ◌∙◌, arith}
+use Rattle.std.proofs.Common.{◌≡◌, ◌≤◌, ◌+◌, length, sym, ap, ◌∙◌, arith}
 use Rattle.calc_addr.specs.Places.{Rectangle}
-use Rattle.calc_model.specs.CellEdits.{CellEntries, within_area}
+use Rattle.calc_model.specs.CellEdits.{CellEntries}
 use Rattle.calc_model.proofs.EntriesMoved.{length-filter}
-use Rattle.cell_map.specs.Runs.{column_at}
 use Rattle.cell_map.proofs.AreaColumns.{is_left, left_all, left_none, left_of, length_more}
 use Rattle.cell_map.proofs.copies.count_within.Goals as goal
 

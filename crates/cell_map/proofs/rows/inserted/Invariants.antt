@@ -1,6 +1,4 @@
-use Rattle.std.proofs.Common.{◌≡◌, ◌++◌, false, true}
-use Rattle.std.specs.FinMap.Entries.{is_sorted}
-use Rattle.calc_addr.specs.Places.{place_cmp}
+use Rattle.std.proofs.Common.{◌≡◌, ◌++◌, false}
 use Rattle.calc_model.specs.RowEdits.{cells_after_insertion, is_pushed_out}
 use Rattle.cell_map.proofs.rows.inserted.Given as goal
 

@@ -1,8 +1,8 @@
-use Rattle.std.proofs.Common.{◌≡◌, ◌≤◌, ◌+◌, ◌∷◌, true, List, suc, length, sym, ap, subst, ◌∙◌, arith, refl}
+use Rattle.std.proofs.Common.{◌≡◌, ◌≤◌, ◌+◌, true, suc, length, sym, ap, subst, ◌∙◌, refl}
 use Rattle.std.specs.List.{list_all}
 use Rattle.std.specs.Vec.Iter.{into_iter_items}
 use Rattle.calc_model.specs.declared.limits.TheConstants.{MOST_CELLS}
-use Rattle.calc_model.specs.Books.{is_held, with_content}
+use Rattle.calc_model.specs.Books.{is_held}
 use Rattle.calc_model.specs.CellEdits.{CellEntries, with_entries}
 use Rattle.calc_model.proofs.Areas.{both_true}
 use Rattle.cell_map.proofs.Copied.{put_one, room_behind, room_for_one}

@@ -1,5 +1,5 @@
-use Rattle.std.proofs.Common.{◌≡◌, ◌≤◌, ◌+◌, ◌∷◌, List, suc, length, sym, ap, subst, ◌∙◌, arith, refl}
-use Rattle.calc_addr.specs.Places.{Place, places}
+use Rattle.std.proofs.Common.{◌≤◌, ◌+◌, List, suc, length, sym, ap, subst, ◌∙◌, refl}
+use Rattle.calc_addr.specs.Places.{Place}
 use Rattle.calc_model.specs.declared.limits.TheConstants.{MOST_CELLS}
 use Rattle.calc_model.specs.Books.{with_content}
 use Rattle.calc_model.specs.CellEdits.{CellEntries, moved_content, with_entries}

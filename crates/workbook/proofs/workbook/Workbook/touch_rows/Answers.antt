@@ -1,8 +1,7 @@
-use Rattle.std.proofs.Common.{◌≡◌, ◌||◌, List, Bool, true, false, ap, refl, subst, sym, ◌∙◌}
+use Rattle.std.proofs.Common.{◌≡◌, ◌||◌, List, Bool, true, false, ap, refl, subst, ◌∙◌}
 use Rattle.std.specs.List.{list_any}
 use Rattle.std.proofs.lemmas.Result.{on_ok_weaker}
 use Rattle.calc_addr.specs.Places.{Place, Rectangle, covers}
-use Rattle.calc_model.specs.Books.{Book}
 use Rattle.calc_model.specs.Reads.{reads}
 use Rattle.calc_model.specs.Touched.{rows_from}
 use Rattle.workbook.specs.Rows.{changes_area, is_reader_of}
