@@ -27,7 +27,7 @@ use Rattle.calc_script.specs.Words.{behind_space, is_idle, up_to_space, without_
 
 -- the word that is printed for a cause
 abbrev pub edit_cause_word : EditCause → List ℕ
-edit_cause_word NotBuilt = codes "not-built"
+edit_cause_word NotBuilt = codes "command"
 edit_cause_word OffSheet = codes "off-sheet"
 edit_cause_word BadName = codes "bad-name"
 edit_cause_word NoName = codes "no-name"
