@@ -1,3 +1,5 @@
+-- rows that hold nothing
+pub mod EmptyRows
 -- looking a cell up
 pub mod Lookups
 -- how many cells a map has after a change

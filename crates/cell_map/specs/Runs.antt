@@ -1,8 +1,10 @@
 -- The first cell of a map that passes a test.
-use Rattle.std.specs.Prelude.{◌≡◌, ℕ, ◌==◌, ◌&&◌, nat_le, true, List, map, Option, None, IsSome}
+use Rattle.std.specs.Prelude.{◌≡◌, ℕ, ◌+◌, ◌<◌, ◌==◌, ◌&&◌, nat_le, true, List, map, Option, None, IsSome}
 use Rattle.std.specs.Ordering.{is_le, is_lt}
 use Rattle.calc_addr.specs.Places.{Place, Rectangle, covers, place_cmp}
 use Rattle.calc_model.specs.declared.content.Content.{Content}
+use Rattle.calc_model.specs.declared.content.Content.TheVariants.{Empty}
+use Rattle.calc_model.specs.Books.{Book, content_at}
 use Rattle.calc_model.specs.CellEdits.{CellEntries, moved_content}
 use Rattle.calc_model.specs.Touched.{CellSet}
 
@@ -23,6 +25,10 @@ pub record IsFirst (test : CellSet) (held : Place → Option Content) (cell : Pl
 -- the map has no cell that passes the test
 abbrev pub IsNone : CellSet → (Place → Option Content) → Type 0
 IsNone test held = (q : Place) → test q ≡ true → held q ≡ None
+
+-- so many cells of a column from that one on are empty
+abbrev pub AreEmpty : Book → Place → ℕ → Type 0
+AreEmpty book start count = (k : ℕ) → k < count → content_at book (record start { row = start.row + k }) ≡ Empty
 
 -- one column of a rectangle
 abbrev pub column_at : Rectangle → ℕ → Rectangle

@@ -1,11 +1,11 @@
-ghost use Rattle.std.specs.Prelude.{◌≡◌, ◌≤◌, ◌+◌, ◌↔◌, nat_le, [], false, true, length, unwrap_or, IfOk, IsTrue, OnOk, OnErr};
+ghost use Rattle.std.specs.Prelude.{◌≡◌, ◌≤◌, ◌+◌, ◌-◌, ◌↔◌, nat_le, [], false, true, length, unwrap_or, IfOk, IsTrue, OnOk, OnErr};
 ghost use Rattle.std.specs.List.{All, list_all};
 ghost use Rattle.std.specs.Option.{option_copied};
 ghost use Rattle.calc_model.specs.Books.{IsBook, content_at, formula_count, is_content, is_held, is_place, with_content};
 ghost use Rattle.calc_addr.specs.Places.{places};
 ghost use Rattle.calc_addr.specs.ValidReferences.{is_rectangle};
 ghost use Rattle.calc_model.specs.CellEdits.{after_copy, after_fill, area_at, with_entries, without_area};
-ghost use Rattle.cell_map.specs.Runs.{moved_entries};
+ghost use Rattle.cell_map.specs.Runs.{AreEmpty, moved_entries};
 ghost use Rattle.calc_model.specs.Changes.{IsShift};
 ghost use Rattle.calc_model.specs.NamedAreas.{names_after_deletion, names_after_insertion};
 ghost use Rattle.calc_model.specs.RowEdits.{cells_after_deletion, cells_after_insertion, is_pushed_out};
@@ -13,7 +13,7 @@ ghost use Rattle.calc_model.specs.Step.{is_edit};
 
 use crate::copies::{area_at, copied_entries, count_within};
 use crate::rows::{Rows, deleted, inserted, is_pushed_out};
-use crate::runs::remove_area;
+use crate::runs::{first_in_run, remove_area};
 use calc_addr::{Area, Cell, LAST_SHEET, NoMemory};
 use calc_model::{Content, Edit, Looked, MOST_CELLS, NameTable};
 use std::alloc::Global;
@@ -75,6 +75,20 @@ impl CellMap {
         ensures book { IsBook self.now }
     {
         self.cells.get(&cell)
+    }
+
+    /// How many rows from a cell on, down to that row, hold nothing before the first that holds something. It
+    /// takes the logarithm of the map.
+    pub(crate) fn empty_rows(&self, start: Cell, last_row: u32) -> u32
+        requires from { start.row ≤ last_row }
+        requires to { last_row ≤ 1048576 }
+        ensures most { result ≤ last_row + 1 - start.row }
+        ensures empty { AreEmpty self.now start result }
+    {
+        match first_in_run(&self.cells, start, last_row) {
+            Some(cell) => cell.row - start.row,
+            None => last_row + 1 - start.row,
+        }
     }
 
     /// Whether the cell may hold the content: there would be no more cells than a book may have.

@@ -70,7 +70,11 @@ fn start_in(area: Area, from: Cell, col: u16) -> Cell
 }
 
 /// The first cell of the map in the column of `start`, from there down to a row.
-fn first_in_run(cells: &BTreeMap<Cell, Content>, start: Cell, last_row: u32) -> Option<Cell>
+pub(crate) fn first_in_run(
+    cells: &BTreeMap<Cell, Content>,
+    start: Cell,
+    last_row: u32,
+) -> Option<Cell>
     requires from { start.row ≤ last_row }
     requires to { last_row ≤ 1048576 }
     ensures first { IfSome result (IsFirst (is_in_run start last_row) (get place_cmp cells.now)) }

@@ -90,13 +90,16 @@ impl Values for ShownCells<'_> {
         false
     }
 
-    /// The piece is one row's.
+    /// It takes the logarithm of the maps.
     #[tactic(auto, unfolding(calc_model::specs::UsedCells::column_values))]
-    fn piece(&self, sheet: u8, col: u16, first: u32, _last: u32) -> Piece<'_> {
-        Piece::One(self.look(Cell {
-            sheet,
-            col,
-            row: first,
-        }))
+    fn piece(&self, sheet: u8, col: u16, first: u32, last: u32) -> Piece<'_> {
+        let row = first;
+        let start = Cell { sheet, col, row };
+        let count = self.cells.empty_rows(start, last);
+        if count == 0 {
+            Piece::One(self.look(start))
+        } else {
+            Piece::Blank { count }
+        }
     }
 }
