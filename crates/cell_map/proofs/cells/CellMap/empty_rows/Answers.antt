@@ -1,4 +1,4 @@
-use Rattle.std.proofs.Common.{◌≡◌, ◌∙◌, ◌-◌, ◌<◌, ◌+◌, ap, subst, sym, arith, ℕ}
+use Rattle.std.proofs.Common.{◌≡◌, ◌-◌, ◌<◌, ◌+◌, ap, sym, arith}
 use Rattle.std.specs.BTreeMap.{get}
 use Rattle.calc_addr.specs.Places.{Place, place_cmp}
 use Rattle.cell_map.proofs.EmptyRows.{below, none_above, none_below}
