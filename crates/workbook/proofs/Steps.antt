@@ -14,7 +14,8 @@ use Rattle.calc_model.specs.Changes.{IsShift}
 use Rattle.calc_model.specs.NamedAreas.{names_after_deletion, names_after_insertion}
 use Rattle.calc_model.specs.RowEdits.{are_rows, cells_after_deletion, cells_after_insertion, is_pushed_out}
 use Rattle.std.proofs.lemmas.Bool.Decides.{nat_tests}
-use Rattle.calc_model.specs.Step.{built_step, if_cells_fit, with_cells}
+use Rattle.calc_model.specs.Step.{if_cells_fit, with_cells}
+use Rattle.workbook.specs.BuiltStep.{built_step}
 
 same_book : (before after : Book) (cells : CellEntries) → after.cells ≡ cells → after.names ≡ before.names → with_cells before cells ≡ after
 same_book before after cells same names =
