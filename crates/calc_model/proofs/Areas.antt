@@ -35,7 +35,7 @@ range_all p a (suc n) x h from to =
     let parts = both_true (p a) (list_all p (range_with_len (a + 1) n)) h in
     grind (arith, parts.0, parts.1, range_all p (a + 1) n x parts.1)
 
-all_range : (p : ℕ → Bool) (a n : ℕ) → ((x : ℕ) → a ≤ x → x < a + n → p x ≡ true) → list_all p (range_with_len a n) ≡ true
+pub all_range : (p : ℕ → Bool) (a n : ℕ) → ((x : ℕ) → a ≤ x → x < a + n → p x ≡ true) → list_all p (range_with_len a n) ≡ true
 all_range p a zero h = refl
 all_range p a (suc n) h =
     let first : p a ≡ true = h a (omega arith) (omega arith) in

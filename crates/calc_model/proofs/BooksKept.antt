@@ -1,5 +1,5 @@
 -- A book stays one under every edit: its entries stay in order, and what they can be.
-use Rattle.std.proofs.Common.{◌≡◌, ◌≤◌, ◌+◌, ℕ, Bool, true, false, not, ◌&&◌, ◌||◌, cond, nat_le, nat_lt, List, [], ◌∷◌, length, map, refl, subst, arith}
+use Rattle.std.proofs.Common.{◌≡◌, ◌≤◌, ◌+◌, ℕ, Bool, true, false, not, ◌&&◌, ◌||◌, cond, nat_le, nat_lt, List, [], ◌∷◌, length, map, refl, subst, arith, lit≤}
 use Rattle.std.specs.Prelude.{Result, Ok, Err, Some, ◌==◌}
 use Rattle.std.specs.List.{filter, list_all, list_any}
 use Rattle.std.specs.Option.{unwrap_or}
@@ -13,7 +13,7 @@ use Rattle.std.proofs.lemmas.List.{length-map}
 use Rattle.calc_addr.specs.Places.{IsRectangle, Place, Rectangle, covers, place_cmp, places, single}
 use Rattle.calc_addr.specs.ValidReferences.{is_rectangle}
 use Rattle.calc_addr.specs.Shifts.{area_after_deletion, area_after_insertion}
-use Rattle.calc_model.specs.declared.limits.TheConstants.{MOST_CELLS, MOST_NAMES}
+use Rattle.calc_model.specs.declared.limits.TheConstants.{MOST_CELLS, MOST_GENERATED_ROWS, MOST_NAMES}
 use Rattle.calc_model.specs.declared.tree.Tree.{Tree}
 use Rattle.calc_model.specs.declared.content.Content.{Content}
 use Rattle.calc_model.specs.declared.content.Content.TheVariants.{Empty, Constant, Formula, Raw}
@@ -23,6 +23,7 @@ use Rattle.calc_model.specs.declared.edit.EditCause.TheVariants.{OffSheet, BadNa
 use Rattle.calc_model.specs.Books.{Book, IsBook, content_at, is_cell_entry, is_content, is_held, is_place, with_content}
 use Rattle.calc_model.specs.CellEdits.{CellEntries, after_copy, after_fill, area_at, copied_entry, equal_place, filled_entries, moved_content, with_entries, with_tree, within_area, without_area}
 use Rattle.calc_model.specs.Formed.{is_formed}
+use Rattle.calc_model.specs.GeneratedBook.{generated_book, generated_entries}
 use Rattle.calc_model.specs.Homes.{cols_between, home_after_deletion, home_after_insertion, rows_between}
 use Rattle.calc_model.specs.NamedAreas.{AreNames, is_defined, names_after_deletion, names_after_insertion, with_name, without_name}
 use Rattle.calc_model.specs.RowEdits.{are_rows, cells_after_deletion, cells_after_insertion, is_in_rows, is_pushed_out}
@@ -33,6 +34,7 @@ use Rattle.calc_model.proofs.Areas.{Inside, all_places, both_true, inside}
 use Rattle.calc_model.proofs.EntriesKept.{all-inserted, all-removed, both_so, length-inserted, length-removed, sorted-inserted, sorted-removed}
 use Rattle.calc_model.proofs.EntriesMoved.{all-filter, all-filtered, all-inserts, all-map, length-filter, sorted-filter, sorted-inserts, sorted-moved}
 use Rattle.calc_model.proofs.FormedShifts.{deleted_is_formed, inserted_is_formed, moved_is_formed}
+use Rattle.calc_model.proofs.GeneratedKept.{generated_fit, generated_held, generated_in_sheet}
 use Rattle.calc_model.proofs.NamesKept.{on_sheet_kept, with_name_kept, without_name_kept}
 use Rattle.calc_model.proofs.Places.{places_total}
 use Rattle.calc_model.proofs.RowsKept.{deleted_is_place, deleted_target, deletion_rises, inserted_is_place, inserted_target, insertion_rises, rectangle_from, tested_rectangle}
@@ -238,6 +240,12 @@ content_can book is q = found_can q book.cells is.cells_held
 rows_from : (sheet place count : ℕ) → not (are_rows sheet place count) ≡ false → 1 ≤ place
 rows_from sheet place count h = grind (arith, leb_tells)
 
+no_cells : AreCells []
+no_cells = record { sorted = refl; held = refl }
+
+no_names : AreNames []
+no_names = record { in_order = refl; spelled = refl; in_limit = lit≤ tt }
+
 pub keeps_books : KeepsBooks
 keeps_books book next (Set cell content) is valid stepped =
     let parts = both_true (is_place cell) (not (is_held content) || is_content content) valid in
@@ -275,4 +283,8 @@ keeps_books book next (Unname name) is valid stepped =
     let after : Book = record book { names = without_name book.names name } in
     let there = passed (is_defined book.names name) after next NoName stepped in
     subst IsBook there.1 (book_is after (cells_of book is) is.cells_in_limit (without_name_kept book.names (names_of book is) name))
-keeps_books book next (Make start rows) is valid stepped = cc
+keeps_books book next (Make start rows) is valid stepped =
+    let few : rows ≤ MOST_GENERATED_ROWS = leb-true rows MOST_GENERATED_ROWS valid in
+    let after : Book = generated_book start rows in
+    let same : after ≡ next = cc in
+    subst IsBook same (book_is after (inserts_kept (generated_entries start rows) [] (generated_held start rows (generated_in_sheet rows few)) no_cells) (generated_fit start rows few) no_names)

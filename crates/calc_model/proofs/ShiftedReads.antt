@@ -17,11 +17,11 @@ use Rattle.calc_model.proofs.Replaced.{replaced-Number, replaced-Words, replaced
 use Rattle.calc_model.proofs.TreeFolds.{at-Ref, at-Call, at-Paren, at-Plus, at-Minus, at-Percent, at-Binary}
 use Rattle.calc_model.proofs.TreeInduction.{tree_ind}
 
-neither : (b c : Bool) → (b || c) ≡ false → (b ≡ false) × (c ≡ false)
+pub neither : (b c : Bool) → (b || c) ≡ false → (b ≡ false) × (c ≡ false)
 neither true c h = cc
 neither false c h = (refl, h)
 
-none_of_both : {X : Type 0} (p : X → Bool) (xs ys : List X) → list_any p (xs ++ ys) ≡ false → (list_any p xs ≡ false) × (list_any p ys ≡ false)
+pub none_of_both : {X : Type 0} (p : X → Bool) (xs ys : List X) → list_any p (xs ++ ys) ≡ false → (list_any p xs ≡ false) × (list_any p ys ≡ false)
 none_of_both p [] ys h = (refl, h)
 none_of_both p (x ∷ xs) ys h =
     let parts = neither (p x) (list_any p (xs ++ ys)) h in
@@ -62,7 +62,7 @@ pub record GoesByRows (change : Rectangle → Option Rectangle) : Type 0 where
   pub same : (a : Rectangle) (sheet : ℕ) → has_rows_of (record a { sheet = sheet }) (change (record a { sheet = sheet })) ≡ has_rows_of a (change a)
   pub stay : (a : Rectangle) → has_rows_of a (change a) ≡ true → change a ≡ Some a
 
-insertion_goes : (place count : ℕ) → GoesByRows (area_after_insertion place count)
+pub insertion_goes : (place count : ℕ) → GoesByRows (area_after_insertion place count)
 insertion_goes place count =
     let first : Rectangle → ℕ = λ a. row_after_insertion place count a.first_row in
     let last : Rectangle → ℕ = λ a. min (row_after_insertion place count a.last_row) LAST_ROW in
@@ -74,7 +74,7 @@ insertion_goes place count =
       stay = λ a. rw (is a) (stays (has_all_rows a) (gone a) (first a) (last a) a);
     }
 
-deletion_goes : (place count : ℕ) → GoesByRows (area_after_deletion place count)
+pub deletion_goes : (place count : ℕ) → GoesByRows (area_after_deletion place count)
 deletion_goes place count =
     let first : Rectangle → ℕ = λ a. cond (is_deleted place count a.first_row) place (row_after_deletion place count a.first_row) in
     let last : Rectangle → ℕ = λ a. cond (is_deleted place count a.last_row) (place - 1) (row_after_deletion place count a.last_row) in
@@ -84,7 +84,7 @@ deletion_goes place count =
       stay = λ a. stays (has_all_rows a) (gone a) (first a) (last a) a;
     }
 
-not_false : (b : Bool) → not b ≡ false → b ≡ true
+pub not_false : (b : Bool) → not b ≡ false → b ≡ true
 not_false true h = refl
 not_false false h = cc
 

@@ -30,6 +30,7 @@ pub mod OverFields
 pub mod Homes
 pub mod CellEdits
 pub mod RowEdits
+pub mod GeneratedBook
 pub mod UsedNames
 pub mod Step
 pub mod Touched

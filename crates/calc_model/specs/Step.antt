@@ -1,13 +1,14 @@
 -- A book after an edit, or the first cause that refuses it.
 use Rattle.std.specs.Prelude.{◌≡◌, ◌==◌, ◌&&◌, ◌||◌, nat_le, not, Bool, true, length, Result, Ok, Err, if◌then◌else◌}
 use Rattle.calc_addr.specs.ValidReferences.{is_rectangle}
-use Rattle.calc_model.specs.declared.limits.TheConstants.{MOST_CELLS, MOST_NAMES}
+use Rattle.calc_model.specs.declared.limits.TheConstants.{MOST_CELLS, MOST_GENERATED_ROWS, MOST_NAMES}
 use Rattle.calc_model.specs.declared.edit.Edit.{Edit}
 use Rattle.calc_model.specs.declared.edit.Edit.TheVariants.{Set, Clear, Copy, Fill, InsertRows, DeleteRows, Name, Unname, Make}
 use Rattle.calc_model.specs.declared.edit.EditCause.{EditCause}
-use Rattle.calc_model.specs.declared.edit.EditCause.TheVariants.{NotBuilt, OffSheet, BadName, NoName, NamesFull, RowsFull, CellsFull}
+use Rattle.calc_model.specs.declared.edit.EditCause.TheVariants.{OffSheet, BadName, NoName, NamesFull, RowsFull, CellsFull}
 use Rattle.calc_model.specs.Books.{Book, IsBook, content_at, is_content, is_held, is_place, with_content}
 use Rattle.calc_model.specs.CellEdits.{CellEntries, after_copy, after_fill, area_at, without_area}
+use Rattle.calc_model.specs.GeneratedBook.{generated_book}
 use Rattle.calc_model.specs.NamedAreas.{is_defined, names_after_deletion, names_after_insertion, with_name, without_name}
 use Rattle.calc_model.specs.RowEdits.{are_rows, cells_after_deletion, cells_after_insertion, is_pushed_out}
 use Rattle.calc_model.specs.Tokens.{is_name}
@@ -41,15 +42,15 @@ step book (Name name area) =
     if is_name name then if_names_fit (record book { names = with_name book.names name area }) else Err BadName
 step book (Unname name) =
     if is_defined book.names name then Ok (record book { names = without_name book.names name }) else Err NoName
--- not built yet
-step book (Make start rows) = Err NotBuilt
+step book (Make start rows) = Ok (generated_book start rows)
 
--- an edit whose cells, areas and contents are what they can be
+-- an edit whose cells, areas, contents and rows are what they can be
 abbrev pub is_edit : Edit → Bool
 is_edit (Set cell content) = is_place cell && (not (is_held content) || is_content content)
 is_edit (Copy area to) = is_rectangle area && is_place to
 is_edit (Fill from area) = is_place from && is_rectangle area
 is_edit (Name name area) = is_rectangle area
+is_edit (Make start rows) = nat_le rows MOST_GENERATED_ROWS
 is_edit _ = true
 
 -- A book stays one under every edit.

@@ -1,5 +1,5 @@
 -- Which cells an edit touches, changed or not, of the book after it, and where a cell stood before it.
-use Rattle.std.specs.Prelude.{ℕ, ◌+◌, ◌-◌, ◌==◌, ◌&&◌, ◌||◌, nat_le, Bool, false, List, Option, Some, None, if◌then◌else◌}
+use Rattle.std.specs.Prelude.{ℕ, ◌+◌, ◌-◌, ◌==◌, ◌&&◌, ◌||◌, nat_le, Bool, true, false, List, Option, Some, None, if◌then◌else◌}
 use Rattle.std.specs.Option.{option_map_or}
 use Rattle.std.specs.List.{list_any}
 use Rattle.std.specs.Ordering.{eq_by_cmp}
@@ -50,7 +50,7 @@ users book name q = uses_name name (content_at book q)
 -- The cells that an edit touches, from the book before it and the one after it: those where it puts or removes a
 -- content; with rows those of the sheet from the place on, and each whose formula is changed or uses a name whose area
 -- is, since both read an area that is changed or deleted, and cells before the place stay where they are; with a name
--- those that use it. `Make` isn't built, so it touches none.
+-- those that use it; with the generated book all.
 abbrev pub touched : Book → Edit → Book → CellSet
 touched before (Set cell content) after q = eq_by_cmp place_cmp cell q
 touched before (Clear area) after q = covers area q
@@ -62,4 +62,4 @@ touched before (DeleteRows sheet place count) after q =
     covers (rows_from sheet place) q || reads_any before (is_changed_by_deletion sheet place count) q
 touched before (Name name area) after q = users after name q
 touched before (Unname name) after q = users after name q
-touched before (Make start rows) after q = false
+touched before (Make start rows) after q = true

@@ -28,8 +28,6 @@ pub enum Edit {
 /// Why an edit is refused, in the order in which the causes are looked for.
 #[derive(Clone, Copy, Debug, PartialEq, Eq)]
 pub enum EditCause {
-    /// Edits of this kind aren't built yet.
-    NotBuilt,
     /// What the edit reaches lies outside the sheet.
     OffSheet,
     /// The name isn't spelled as names are.

@@ -37,12 +37,12 @@ pub use function::{Form, Function, form_named};
 pub use homes::{home_after_deletion, home_after_insertion};
 pub use identifier::{begins_identifier, is_identifier, is_in_identifier, is_name, is_utf8};
 pub use laws::{
-    edits_keep_books, fixed_point, formulas_stay_formed, rounds_reach_all,
-    rows_change_their_readers,
+    edits_keep_books, fixed_point, formulas_stay_formed, names_change_their_users,
+    rounds_reach_all, rows_change_their_readers,
 };
 pub use limits::{
-    MOST_CELLS, MOST_FIELD_BYTES, MOST_FORMULA_BYTES, MOST_NAMES, MOST_OPEN, MOST_PARAMETERS,
-    MOST_TOKENS,
+    MOST_CELLS, MOST_FIELD_BYTES, MOST_FORMULA_BYTES, MOST_GENERATED_ROWS, MOST_NAMES, MOST_OPEN,
+    MOST_PARAMETERS, MOST_START, MOST_TOKENS,
 };
 pub use list::List;
 pub use looked::Looked;

@@ -6,6 +6,12 @@ pub const MOST_CELLS: usize = 4_194_304;
 /// The most names of a book.
 pub const MOST_NAMES: usize = 1_024;
 
+/// The most rows of a generated book.
+pub const MOST_GENERATED_ROWS: u32 = 100_000;
+
+/// The greatest start of a generated book.
+pub const MOST_START: u32 = 65_536;
+
 /// The most bytes of a field that is kept.
 pub const MOST_FIELD_BYTES: usize = 65_535;
 
