@@ -14,7 +14,7 @@ use Rattle.calc_model.proofs.EntriesKept.{sorted-mapped}
 use Rattle.calc_names.specs.LookUps.{answer_of}
 use Rattle.calc_names.specs.Kept.{AreKept, GoesTo, KeptEntries, StandsAt, name_at, seen_entries, target_of}
 use Rattle.calc_names.proofs.Sorted.{found_at, greater_apart, not_found, smaller_apart}
-use Rattle.calc_names.proofs.Valued.{find-valued}
+use Rattle.calc_model.proofs.EntriesFound.{find-valued}
 
 pub length-seen : (kept : KeptEntries) → length (seen_entries kept) ≡ length kept
 length-seen kept = length-map {B = List ℕ × Target} kept (λ e. (e.0, target_of e.1))

@@ -29,11 +29,3 @@ module _ {K X Y : Type 0} (R : K → K → Ordering) (f : X → Y) where
         | true ↦ refl
         | false ↦ ap (λ rest. (e.0, f e.1) ∷ rest) (valued-remove k es)
       ]
-
-  pub find-valued : (k : K) (es : List (K × X)) → find R k (valued f es) ≡ option_map f (find R k es)
-  find-valued k [] = refl
-  find-valued k (e ∷ es) =
-      elim (is_eq (R k e.0)) as (λ b. cond b (Some (f e.1)) (find R k (valued f es)) ≡ option_map f (cond b (Some e.1) (find R k es))) [
-        | true ↦ refl
-        | false ↦ find-valued k es
-      ]

@@ -60,10 +60,6 @@ length-inserts (n ∷ news) es sorted h =
     let rest = length-inserts news (insert_entry place_cmp es n.0 n.1) order.1 (still_fresh n.0 n.1 news es order.0 parts.1) in
     omega (arith, rest, length-fresh n.0 n.1 es parts.0)
 
-pub no_longer : (news es : CellEntries) → length (with_entries es news) ≤ length es + length news
-no_longer [] es = omega arith
-no_longer (n ∷ news) es = omega (arith, no_longer news (insert_entry place_cmp es n.0 n.1), length-inserted place_cmp n.0 n.1 es)
-
 -- no cell of an area is left outside it
 outside_fresh : (area : Rectangle) (k : Place) (es : CellEntries) → covers area k ≡ true → is_fresh k (without_area es area) ≡ true
 outside_fresh area k [] inside = refl

@@ -1,4 +1,4 @@
-ghost use Rattle.std.specs.Prelude.{◌≡◌, ◌≤◌, ◌+◌, ◌-◌, ◌↔◌, nat_le, [], false, true, length, unwrap_or, IfOk, IsTrue, OnOk, OnErr};
+ghost use Rattle.std.specs.Prelude.{◌≡◌, ◌≤◌, ◌+◌, ◌-◌, ◌↔◌, nat_le, [], false, true, length, unwrap_or, IfOk, IsErrOf, IsTrue, OnOk, OnErr};
 ghost use Rattle.std.specs.List.{All, list_all};
 ghost use Rattle.std.specs.Option.{option_copied};
 ghost use Rattle.calc_model.specs.Books.{IsBook, content_at, formula_count, is_content, is_held, is_place, with_content};
@@ -7,29 +7,32 @@ ghost use Rattle.calc_addr.specs.ValidReferences.{is_rectangle};
 ghost use Rattle.calc_model.specs.CellEdits.{after_copy, after_fill, area_at, with_entries, without_area};
 ghost use Rattle.cell_map.specs.Runs.{AreEmpty, moved_entries};
 ghost use Rattle.calc_model.specs.Changes.{IsShift};
-ghost use Rattle.calc_model.specs.NamedAreas.{names_after_deletion, names_after_insertion};
+ghost use Rattle.calc_model.specs.NamedAreas.{is_defined, names_after_deletion, names_after_insertion, with_name, without_name};
+ghost use Rattle.calc_model.specs.Tokens.{is_name};
+ghost use Rattle.calc_names.specs.NameFaults.{IsOneTooMany};
 ghost use Rattle.calc_model.specs.RowEdits.{cells_after_deletion, cells_after_insertion, is_pushed_out};
 ghost use Rattle.calc_model.specs.Step.{is_edit};
 
 use crate::copies::{area_at, copied_entries, count_within};
 use crate::rows::{Rows, deleted, inserted, is_pushed_out};
 use crate::runs::{first_in_run, remove_area};
-use calc_addr::{Area, Cell, LAST_SHEET, NoMemory};
-use calc_model::{Content, Edit, Looked, MOST_CELLS, NameTable};
+use calc_addr::{Area, Cell, LAST_ROW, LAST_SHEET, NoMemory};
+use calc_model::{Content, Edit, Looked, MOST_CELLS, NameTable, Text};
+use calc_names::{NameFault, Names};
 use std::alloc::Global;
 use std::collections::BTreeMap;
 use std::collections::btree_map::Iter;
 use std::marker::Model;
 
-/// What each cell that isn't empty holds, of at most 4,194,304 cells. Contracts see it as a book without
-/// names.
+/// What each cell that isn't empty holds, of at most 4,194,304 cells, and the names. Contracts see it as
+/// a book.
 #[derive(Drop)]
 pub struct CellMap {
     cells: BTreeMap<Cell, Content>,
+    names: Names,
 }
 
 impl Model for CellMap {
-    ghost use Rattle.std.specs.Prelude.{[]};
     ghost use Rattle.std.specs.Coded.{codes};
     ghost use Rattle.calc_model.specs.Books.{Book, IsBook};
     ghost use Rattle.calc_model.specs.contracts.tree.Tree as coded_tree;
@@ -38,26 +41,26 @@ impl Model for CellMap {
 
     ghost coded = { Prim.hlevel (codes, coded_tree.the_row.coded) };
 
-    ghost view = { λ m. record { cells = m.cells.entries; names = [] } };
+    ghost view = { λ m. record { cells = m.cells.entries; names = m.names } };
 
-    ghost invariant = { λ m. IsBook (record { cells = m.cells.entries; names = [] }) };
+    ghost invariant = { λ m. IsBook (record { cells = m.cells.entries; names = m.names }) };
 }
 
 impl CellMap {
-    /// No cell.
+    /// No cell and no name.
     pub fn new(alloc: Global) -> CellMap
         ensures cells { result.cells ≡ [] }
         ensures names { result.names ≡ [] }
     {
         CellMap {
             cells: BTreeMap::new(alloc),
+            names: Names::new(alloc),
         }
     }
 
     /// How many cells aren't empty.
     pub fn len(&self) -> usize
         ensures cells { result ≡ length self.now.cells }
-        ensures names { self.now.names ≡ [] }
         ensures book { IsBook self.now }
     {
         self.cells.len()
@@ -81,7 +84,7 @@ impl CellMap {
     /// takes the logarithm of the map.
     pub(crate) fn empty_rows(&self, start: Cell, last_row: u32) -> u32
         requires from { start.row ≤ last_row }
-        requires to { last_row ≤ 1048576 }
+        requires to { last_row ≤ LAST_ROW }
         ensures most { result ≤ last_row + 1 - start.row }
         ensures empty { AreEmpty self.now start result }
     {
@@ -256,7 +259,7 @@ impl CellMap {
     }
 
     /// Inserts rows into a sheet. It takes the logarithm of the map for each cell of the book, and is linear
-    /// in the contents. Where memory is refused, the cells are as before.
+    /// in the contents. Where memory is refused, all is as before.
     pub fn insert_rows(
         &mut self,
         alloc: Global,
@@ -269,8 +272,8 @@ impl CellMap {
         requires inside { is_pushed_out sheet place count self.old.cells ≡ false }
         ensures cells { OnOk result
             (self.new.cells ≡ cells_after_insertion sheet place count self.old.cells) }
-        ensures names { self.new.names ≡ self.old.names }
-        ensures areas { names_after_insertion sheet place count self.old.names ≡ self.old.names }
+        ensures names { OnOk result
+            (self.new.names ≡ names_after_insertion sheet place count self.old.names) }
         ensures was_book { IsBook self.old }
         ensures book { IsBook self.new }
         ensures kept { OnErr result (self.new ≡ self.old) }
@@ -281,10 +284,11 @@ impl CellMap {
             count,
         };
         self.cells = inserted(alloc, &self.cells, rows)?;
+        self.names.insert_rows(sheet, place, count);
         Ok(())
     }
 
-    /// Deletes rows of a sheet, at the same cost. Where memory is refused, the cells are as before.
+    /// Deletes rows of a sheet, at the same cost. Where memory is refused, all is as before.
     pub fn delete_rows(
         &mut self,
         alloc: Global,
@@ -296,8 +300,8 @@ impl CellMap {
         requires rows { IsShift place count }
         ensures cells { OnOk result
             (self.new.cells ≡ cells_after_deletion sheet place count self.old.cells) }
-        ensures names { self.new.names ≡ self.old.names }
-        ensures areas { names_after_deletion sheet place count self.old.names ≡ self.old.names }
+        ensures names { OnOk result
+            (self.new.names ≡ names_after_deletion sheet place count self.old.names) }
         ensures was_book { IsBook self.old }
         ensures book { IsBook self.new }
         ensures kept { OnErr result (self.new ≡ self.old) }
@@ -308,6 +312,38 @@ impl CellMap {
             count,
         };
         self.cells = deleted(alloc, &self.cells, rows)?;
+        self.names.delete_rows(sheet, place, count);
+        Ok(())
+    }
+
+    /// Gives the name that area. A new name moves those behind it in the order of names.
+    pub fn define_name(&mut self, name: &Text, area: Area) -> Result<(), NameFault>
+        ensures cells { self.new.cells ≡ self.old.cells }
+        ensures names { OnOk result (self.new.names ≡ with_name self.old.names name.now area) }
+        ensures bad_name { IsErrOf result NameFault.BadName ↔ (is_name name.now ≡ false) }
+        ensures full { IsErrOf result NameFault.Full ↔ IsOneTooMany self.old.names name.now }
+        ensures no_name { ¬ (IsErrOf result NameFault.NoName) }
+        ensures was_book { IsBook self.old }
+        ensures book { IsBook self.new }
+        ensures kept { OnErr result (self.new ≡ self.old) }
+    {
+        self.names.define(name, area)?;
+        let _ = self.names.entries();
+        Ok(())
+    }
+
+    /// Takes a name away. It takes no memory.
+    pub fn remove_name(&mut self, name: &Text) -> Result<(), NameFault>
+        ensures cells { self.new.cells ≡ self.old.cells }
+        ensures names { OnOk result (self.new.names ≡ without_name self.old.names name.now) }
+        ensures no_name { IsErrOf result NameFault.NoName
+            ↔ (is_defined self.old.names name.now ≡ false) }
+        ensures only { OnErr result (IsErrOf result NameFault.NoName) }
+        ensures book { IsBook self.new }
+        ensures kept { OnErr result (self.new ≡ self.old) }
+    {
+        self.names.remove(name)?;
+        let _ = self.names.entries();
         Ok(())
     }
 
@@ -326,7 +362,6 @@ impl CellMap {
     pub fn iter(&self) -> Iter<'_, Cell, Content>
         ensures rest { result ≡ self.now.cells }
         ensures found { All (λ entry. content_at self.now entry.0 ≡ entry.1) self.now.cells }
-        ensures names { self.now.names ≡ [] }
         ensures book { IsBook self.now }
     {
         self.cells.iter()
@@ -381,9 +416,8 @@ impl NameTable for CellMap {
 
     ghost entries = { book_names };
 
-    #[tactic(auto, unfolding(calc_model::specs::Books::entry_named))]
-    fn lookup(&self, _name: &[u8]) -> Looked {
-        let _ = &self.cells;
-        Looked::Absent
+    /// It takes the logarithm of the names.
+    fn lookup(&self, name: &[u8]) -> Looked {
+        self.names.lookup(name)
     }
 }

@@ -5,7 +5,7 @@ ghost use Rattle.calc_addr.specs.Places.{Place, covers, place_cmp};
 ghost use Rattle.calc_model.specs.CellEdits.{without_area};
 ghost use Rattle.cell_map.specs.Runs.{IsFirst, IsNone, is_ahead, is_in_run};
 
-use calc_addr::{Area, Cell};
+use calc_addr::{Area, Cell, LAST_ROW};
 use calc_model::Content;
 use std::collections::BTreeMap;
 
@@ -56,7 +56,7 @@ fn start_in(area: Area, from: Cell, col: u16) -> Cell
     requires last { col ≤ area.last_col }
     ensures col { result.col ≡ col }
     ensures row { result.row ≤ area.last_row }
-    ensures last { area.last_row ≤ 1048576 }
+    ensures last { area.last_row ≤ LAST_ROW }
     ensures ahead { (q : Place) → is_in_run result area.last_row q ≡ true → is_ahead area from q ≡ true }
     ensures run { (q : Place) → is_ahead area from q ≡ true → q.col ≡ col
         → is_in_run result area.last_row q ≡ true }
@@ -76,7 +76,7 @@ pub(crate) fn first_in_run(
     last_row: u32,
 ) -> Option<Cell>
     requires from { start.row ≤ last_row }
-    requires to { last_row ≤ 1048576 }
+    requires to { last_row ≤ LAST_ROW }
     ensures first { IfSome result (IsFirst (is_in_run start last_row) (get place_cmp cells.now)) }
     ensures none { IfNone result (IsNone (is_in_run start last_row) (get place_cmp cells.now)) }
 {
