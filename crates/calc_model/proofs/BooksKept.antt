@@ -246,6 +246,11 @@ no_cells = record { sorted = refl; held = refl }
 no_names : AreNames []
 no_names = record { in_order = refl; spelled = refl; in_limit = lit≤ tt }
 
+pub generated_is_book : (start rows : ℕ) → rows ≤ MOST_GENERATED_ROWS → IsBook (generated_book start rows)
+generated_is_book start rows few =
+    book_is (generated_book start rows)
+    (inserts_kept (generated_entries start rows) [] (generated_held start rows (generated_in_sheet rows few)) no_cells) (generated_fit start rows few) no_names
+
 pub keeps_books : KeepsBooks
 keeps_books book next (Set cell content) is valid stepped =
     let parts = both_true (is_place cell) (not (is_held content) || is_content content) valid in
@@ -284,7 +289,5 @@ keeps_books book next (Unname name) is valid stepped =
     let there = passed (is_defined book.names name) after next NoName stepped in
     subst IsBook there.1 (book_is after (cells_of book is) is.cells_in_limit (without_name_kept book.names (names_of book is) name))
 keeps_books book next (Make start rows) is valid stepped =
-    let few : rows ≤ MOST_GENERATED_ROWS = leb-true rows MOST_GENERATED_ROWS valid in
-    let after : Book = generated_book start rows in
-    let same : after ≡ next = cc in
-    subst IsBook same (book_is after (inserts_kept (generated_entries start rows) [] (generated_held start rows (generated_in_sheet rows few)) no_cells) (generated_fit start rows few) no_names)
+    let same : generated_book start rows ≡ next = cc in
+    subst IsBook same (generated_is_book start rows (leb-true rows MOST_GENERATED_ROWS valid))

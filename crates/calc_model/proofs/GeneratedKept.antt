@@ -57,7 +57,7 @@ formed : (x : Tree) → (form_of x).formed ≡ true → is_in_limits x ≡ true 
 unfolding is_well_formed
 formed x well limits = both_so _ _ well limits
 
-cell_formed : (col row : ℕ) → 1 ≤ col → col ≤ LAST_COL → 1 ≤ row → row ≤ LAST_ROW → is_formed (cell_reference col row) ≡ true
+pub cell_formed : (col row : ℕ) → 1 ≤ col → col ≤ LAST_COL → 1 ≤ row → row ≤ LAST_ROW → is_formed (cell_reference col row) ≡ true
 unfolding is_in_limits
 cell_formed col row from to top bottom =
     let r = column_reference One col row row in
@@ -71,7 +71,7 @@ doubled_formed row top bottom =
     (rw (at-Binary _ form_step Mul (t.Ref r) (t.Number (pos (whole 2))), at-Ref _ form_step r, at-Number _ form_step (pos (whole 2)), valid_cell 1 row (lit≤ tt) (lit≤ tt) top bottom) refl)
     (rw (at-Binary _ counts_step Mul (t.Ref r) (t.Number (pos (whole 2))), at-Ref _ counts_step r, at-Number _ counts_step (pos (whole 2))) refl)
 
-sum_formed : (row : ℕ) → 1 ≤ row - 1 → row ≤ LAST_ROW → is_formed (t.Binary Add (cell_reference 3 (row - 1)) (cell_reference 2 row)) ≡ true
+pub sum_formed : (row : ℕ) → 1 ≤ row - 1 → row ≤ LAST_ROW → is_formed (t.Binary Add (cell_reference 3 (row - 1)) (cell_reference 2 row)) ≡ true
 unfolding is_in_limits
 sum_formed row top bottom =
     let above = column_reference One 3 (row - 1) (row - 1) in

@@ -14,3 +14,5 @@ pub mod AreaColumns
 pub mod Inserted
 pub mod Copied
 pub mod Shifted
+-- the generated book
+mod ColumnEntries

@@ -1,3 +1,4 @@
+pub mod GeneratedColumns
 pub mod ResultMap
 pub mod Runs
 pub mod ShownCells

@@ -10,14 +10,16 @@ ghost use Rattle.calc_model.specs.Changes.{IsShift};
 ghost use Rattle.calc_model.specs.NamedAreas.{is_defined, names_after_deletion, names_after_insertion, with_name, without_name};
 ghost use Rattle.calc_model.specs.Tokens.{is_name};
 ghost use Rattle.calc_names.specs.NameFaults.{IsOneTooMany};
+ghost use Rattle.calc_model.specs.GeneratedBook.{generated_book};
 ghost use Rattle.calc_model.specs.RowEdits.{cells_after_deletion, cells_after_insertion, is_pushed_out};
 ghost use Rattle.calc_model.specs.Step.{is_edit};
 
+use crate::generated::generated;
 use crate::copies::{area_at, copied_entries, count_within};
 use crate::rows::{Rows, deleted, inserted, is_pushed_out};
 use crate::runs::{first_in_run, remove_area};
 use calc_addr::{Area, Cell, LAST_ROW, LAST_SHEET, NoMemory};
-use calc_model::{Content, Edit, Looked, MOST_CELLS, NameTable, Text};
+use calc_model::{Content, Edit, Looked, MOST_CELLS, MOST_GENERATED_ROWS, NameTable, Text};
 use calc_names::{NameFault, Names};
 use std::alloc::Global;
 use std::collections::BTreeMap;
@@ -56,6 +58,19 @@ impl CellMap {
             cells: BTreeMap::new(alloc),
             names: Names::new(alloc),
         }
+    }
+
+    /// The generated book of so many rows. It takes the logarithm of the cells for each of them.
+    pub fn generated(alloc: Global, start: u32, rows: u32) -> Result<CellMap, NoMemory>
+        requires { rows ≤ MOST_GENERATED_ROWS }
+        ensures book { IfOk result (λ map. map ≡ generated_book start rows) }
+        ensures is { IfOk result (λ map. IsBook map) }
+    {
+        let cells = generated(alloc, start, rows)?;
+        Ok(CellMap {
+            cells,
+            names: Names::new(alloc),
+        })
     }
 
     /// How many cells aren't empty.

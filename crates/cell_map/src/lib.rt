@@ -5,6 +5,7 @@
 
 mod cells;
 mod copies;
+mod generated;
 mod results;
 mod rows;
 mod runs;
