@@ -19,8 +19,7 @@ use Rattle.calc_model.proofs.Areas.{both_true}
 use Rattle.calc_model.proofs.Places.{same_places}
 use Rattle.calc_model.proofs.Reached.{or_second}
 use Rattle.calc_model.proofs.Rounds.{held_entry}
-use Rattle.plain_evaluator.specs.Plain.{AreReaders, IsReader, no_names, readers_of}
-use Rattle.plain_evaluator.proofs.TreeAreas.{no_name_is_defined}
+use Rattle.plain_evaluator.specs.Plain.{AreReaders, IsReader, readers_of}
 
 abbrev pub Reading : Type 0
 Reading = Place × List Rectangle
@@ -78,10 +77,9 @@ module _ (book : Book) where
     every = λ q formula. let entry = held_entry (find place_cmp q book.cells) formula in every_found book.cells q entry.0 entry.1 entry.2;
   }
 
-  -- what a formula of a book without names reads
-  pub reads_formula : (cell : Place) (tree : Tree) → book.names ≡ [] → content_at book cell ≡ Formula tree → areas cell no_names tree ≡ reads book cell
-  reads_formula cell tree none at =
-      ap (λ names. areas cell names tree) (sym (no_name_is_defined book none)) ∙ ap (content_areas cell (area_named book)) (sym at)
+  -- what a formula reads
+  reads_formula : (cell : Place) (tree : Tree) → content_at book cell ≡ Formula tree → areas cell (area_named book) tree ≡ reads book cell
+  reads_formula cell tree at = ap (content_areas cell (area_named book)) (sym at)
 
   -- a formula is ready where the areas that it reads are known
   pub ready_by : (results : Results) (reader : Reading) → reader.1 ≡ reads book reader.0 → (areas : List Rectangle) → areas ≡ reader.1 → (known : Bool) → known ≡ all_cells (is_known book results) areas → is_ready book results reader.0 ≡ known
@@ -107,9 +105,9 @@ module _ (book : Book) where
       ] refl any
 
   -- one more formula behind those so far
-  pub one_more_formula : (before now all : List Reading) (entry : Place × Content) (entries rest : List (Place × Content)) (tree : Tree) (read : List Rectangle) → before ++ readings entries ≡ all → entries ≡ entry ∷ rest → entry.1 ≡ Formula tree → content_at book entry.0 ≡ entry.1 → book.names ≡ [] → read ≡ areas entry.0 no_names tree → now ≡ before ++ (entry.0, read) ∷ [] → now ++ readings rest ≡ all
-  one_more_formula before now all entry entries rest tree read so_far next formula at none reads_it pushed =
-      let same : (entry.0, read) ≡ reading entry = ap (λ (areas : List Rectangle). (entry.0, areas)) (reads_it ∙ reads_formula entry.0 tree none (at ∙ formula)) in
+  pub one_more_formula : (before now all : List Reading) (entry : Place × Content) (entries rest : List (Place × Content)) (tree : Tree) (read : List Rectangle) → before ++ readings entries ≡ all → entries ≡ entry ∷ rest → entry.1 ≡ Formula tree → content_at book entry.0 ≡ entry.1 → read ≡ areas entry.0 (area_named book) tree → now ≡ before ++ (entry.0, read) ∷ [] → now ++ readings rest ≡ all
+  one_more_formula before now all entry entries rest tree read so_far next formula at reads_it pushed =
+      let same : (entry.0, read) ≡ reading entry = ap (λ (areas : List Rectangle). (entry.0, areas)) (reads_it ∙ reads_formula entry.0 tree (at ∙ formula)) in
       let kept : readings (entry ∷ rest) ≡ reading entry ∷ readings rest = ap (λ b. map reading (cond b (entry ∷ filter (λ e. is_formula e.1) rest) (filter (λ e. is_formula e.1) rest))) (ap is_formula formula) in
       ap (λ items. items ++ readings rest) (pushed ∙ ap (λ r. before ++ r ∷ []) same)
       ∙ append_assoc before (reading entry ∷ []) (readings rest)

@@ -4,19 +4,14 @@ use Rattle.std.specs.List.{All, filter, list_any}
 use Rattle.std.specs.Ordering.{eq_by_cmp}
 use Rattle.calc_addr.specs.Places.{Place, Rectangle, place_cmp}
 use Rattle.calc_model.specs.declared.value.Value.{Value}
-use Rattle.calc_model.specs.declared.looked.Looked.TheVariants.{Absent}
 use Rattle.calc_model.specs.declared.tree.Tree.{Tree}
 use Rattle.calc_model.specs.Books.{Book, area_named, is_formula}
 use Rattle.calc_model.specs.Eval.{eval}
-use Rattle.calc_model.specs.Reads.{Names, reads}
+use Rattle.calc_model.specs.Reads.{reads}
 use Rattle.calc_model.specs.Results.{Results, is_known, is_ready, shown_by}
 use Rattle.calc_model.specs.Stale.{is_formula_cell}
 use Rattle.calc_model.specs.Touched.{CellSet}
 use Rattle.formula_code.specs.Codes.{Codes, code_at}
-
--- no name stands for anything
-abbrev pub no_names : Names
-no_names name = Absent
 
 -- the formulas of a book in the order of cells, each with the areas that it reads
 abbrev pub readers_of : Book → List (Place × List Rectangle)

@@ -72,7 +72,7 @@ fn in_cell_order(alloc: Global, cells: &CellMap) -> Result<Vec<Reader>, NoMemory
     for (cell, content) in cells.iter() {
         if let Content::Formula(formula) = content {
             let mut areas = Vec::new(alloc);
-            push_areas(*cell, formula.tree(), &mut areas)?;
+            push_areas(cells, *cell, formula.tree(), &mut areas)?;
             readers.push(Reader {
                 cell: *cell,
                 areas,

@@ -3,9 +3,9 @@ use Rattle.std.proofs.lemmas.List.Elements.{recursion_from_All}
 use Rattle.std.specs.List.{AllByRecursion}
 use Rattle.calc_addr.specs.Places.{Place}
 use Rattle.calc_model.specs.declared.content.Content.{Content}
-use Rattle.calc_model.specs.Books.{content_at}
+use Rattle.calc_model.specs.Books.{area_named, content_at}
 use Rattle.calc_model.specs.Reads.{areas}
-use Rattle.plain_evaluator.specs.Plain.{AreReaders, no_names, readers_of}
+use Rattle.plain_evaluator.specs.Plain.{AreReaders, readers_of}
 use Rattle.plain_evaluator.proofs.Formulas.{are_readers, one_more_formula, readings}
 use Rattle.plain_evaluator.proofs.reading.in_cell_order.Goals as goal
 
@@ -17,8 +17,8 @@ loop-cell-preserved-in-Continue-branch-2 c =
     record {
       so_far =
           one_more_formula book c.loop-cell.readers.items c.push.new.self.items (readers_of book) (cell, c.in-Some.content.now) c.loop-cell.cell-iterator c.next.new.self c.in-Formula.formula c.push_areas.new.out.items
-          c.loop-cell.invariant.so_far c.in-Some.ensures.steps c.in-Formula.is holds.0 c.iter-cell-items.ensures.names
-          (c.in_ok-push_areas.ensures ∙ ap (λ front. front ++ areas cell no_names c.tree.result.now) c.new-areas.ensures.items ∙ ap (areas cell no_names) c.tree.ensures.value)
+          c.loop-cell.invariant.so_far c.in-Some.ensures.steps c.in-Formula.is holds.0
+          (c.in_ok-push_areas.ensures ∙ ap (λ front. front ++ areas cell (area_named book) c.tree.result.now) c.new-areas.ensures.items ∙ ap (areas cell (area_named book)) c.tree.ensures.value)
           c.in_ok-push.ensures.items;
       holds = holds.1;
     }
