@@ -1,14 +1,13 @@
 -- Worked examples of the generated book.
 use Rattle.std.proofs.Common.{◌≡◌, [], ◌∷◌, map, codes, pos, refl}
-use Rattle.std.specs.Prelude.{Ok, true, get_or, drop}
+use Rattle.std.specs.Prelude.{Ok, true, drop}
 use Rattle.calc_addr.specs.Places.{Place}
-use Rattle.calc_addr.specs.declared.reference.Span.TheVariants.{One, Cells}
-use Rattle.calc_model.specs.declared.content.Content.{Content}
+use Rattle.calc_addr.specs.declared.reference.Span.TheVariants.{Cells}
 use Rattle.calc_model.specs.declared.content.Content.TheVariants.{Formula}
 use Rattle.calc_model.specs.declared.edit.Edit.TheVariants.{Make}
 use Rattle.calc_model.specs.declared.tree.Op.TheVariants.{Add, Mul}
 use Rattle.calc_model.specs.declared.tree.Tree.TheVariants as t
-use Rattle.calc_model.specs.GeneratedBook.{cell_reference, column_reference, generated_entries, generated_number, whole, window_sum}
+use Rattle.calc_model.specs.GeneratedBook.{cell_reference, column_reference, generated_entries, generated_number, whole}
 use Rattle.calc_model.specs.Step.{step}
 use Rattle.calc_model.specs.Touched.{touched}
 use Rattle.calc_model.proofs.StepExamples.{at, book_of, three_cells}

@@ -1,17 +1,16 @@
 -- The generated book is a book: its cells lie in the first sheet, its formulas are formed, and they are few enough.
-use Rattle.std.proofs.Common.{◌≡◌, ◌≤◌, ◌<◌, ◌+◌, ◌*◌, ◌-◌, ℕ, true, false, ◌&&◌, cond, List, [], ◌∷◌, ◌++◌, length, map, refl, ap, ◌∙◌, arith, lit≤}
+use Rattle.std.proofs.Common.{◌≡◌, ◌≤◌, ◌+◌, ◌*◌, ◌-◌, ℕ, true, false, ◌&&◌, cond, List, [], ◌∷◌, ◌++◌, length, map, refl, ap, ◌∙◌, arith, lit≤}
 use Rattle.std.specs.Prelude.{codes, pos, ◌==◌}
-use Rattle.std.specs.List.{list_all, range_with_len}
+use Rattle.std.specs.List.{list_all}
 use Rattle.std.specs.BTreeMap.{insert_entry}
 use Rattle.std.specs.Str.{chars, is_utf8}
 use lib.Utf8.{encode}
-use Rattle.std.specs.FinMap.Entries.{is_sorted}
 use Rattle.std.proofs.lemmas.Bool.{eq-eqb}
 use Rattle.std.proofs.lemmas.Bool.Decides.{nat_tests}
 use Rattle.std.proofs.lemmas.List.{length-append}
 use Rattle.std.proofs.lemmas.List.FromFn.{length-map-range_with_len}
 use Rattle.calc_addr.specs.declared.cell.TheConstants.{LAST_COL, LAST_ROW}
-use Rattle.calc_addr.specs.Places.{Place, from_to, place_cmp, single}
+use Rattle.calc_addr.specs.Places.{Place, from_to, place_cmp}
 use Rattle.calc_addr.specs.ValidReferences.{is_rectangle, is_spanned, is_valid_reference}
 use Rattle.calc_addr.specs.declared.reference.Span.{Span}
 use Rattle.calc_addr.specs.declared.reference.Span.TheVariants.{One, Cells}
@@ -21,11 +20,11 @@ use Rattle.calc_model.specs.declared.limits.TheConstants.{MOST_CELLS, MOST_GENER
 use Rattle.calc_model.specs.declared.tree.Op.TheVariants.{Add, Mul}
 use Rattle.calc_model.specs.declared.tree.Tree.{Tree}
 use Rattle.calc_model.specs.declared.tree.Tree.TheVariants as t
-use Rattle.calc_model.specs.Books.{is_cell_entry, is_content, is_place}
+use Rattle.calc_model.specs.Books.{is_cell_entry, is_content}
 use Rattle.calc_model.specs.CellEdits.{CellEntries, with_entries}
 use Rattle.calc_model.specs.Formed.{form_of, form_step, is_formed, is_well_formed}
 use Rattle.calc_model.specs.GeneratedBook.{cell_reference, column_entries, column_reference, double_entries, doubled, generated_entries, generated_number, number_entries, running_entries, running_sum, unmarked, whole, window_entries, window_sum}
-use Rattle.calc_model.specs.Limits.{counts_of, counts_step, is_in_limits}
+use Rattle.calc_model.specs.Limits.{counts_step, is_in_limits}
 use Rattle.calc_model.proofs.Areas.{all_range, both_true}
 use Rattle.calc_model.proofs.EntriesKept.{both_so, length-inserted}
 use Rattle.calc_model.proofs.RowsKept.{tested_rectangle}
@@ -147,9 +146,17 @@ generated_length start rows =
     let b = double_entries rows in
     let c = running_entries rows in
     let d = window_entries rows in
-    omega (arith, no_longer (a ++ b ++ c ++ d) [], length-append (a ++ b ++ c) d, length-append (a ++ b) c, length-append a b,
-    column_length 1 (generated_number start) 1 rows, column_length 2 (λ row. Formula (doubled row)) 1 rows,
-    column_length 3 (λ row. Formula (running_sum row)) 1 rows, column_length 4 (λ row. Formula (window_sum row)) 8 rows)
+    omega (
+      arith,
+      no_longer (a ++ b ++ c ++ d) [],
+      length-append (a ++ b ++ c) d,
+      length-append (a ++ b) c,
+      length-append a b,
+      column_length 1 (generated_number start) 1 rows,
+      column_length 2 (λ row. Formula (doubled row)) 1 rows,
+      column_length 3 (λ row. Formula (running_sum row)) 1 rows,
+      column_length 4 (λ row. Formula (window_sum row)) 8 rows,
+    )
 
 -- so many rows are few enough
 pub generated_in_sheet : (rows : ℕ) → rows ≤ MOST_GENERATED_ROWS → rows ≤ LAST_ROW

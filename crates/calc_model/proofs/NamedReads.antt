@@ -3,7 +3,7 @@
 use Rattle.std.proofs.Common.{◌≡◌, ℕ, true, false, ◌&&◌, ◌||◌, not, cond, List, [], ◌∷◌, ◌++◌, map, Option, Some, None, refl, sym, ap, ◌∙◌}
 use Rattle.std.specs.Prelude.{◌==◌, option_map, Bool}
 use Rattle.std.specs.List.{AllByRecursion, flat_map, list_any}
-use Rattle.std.specs.Ordering.{eq_by_cmp, is_eq}
+use Rattle.std.specs.Ordering.{is_eq}
 use Rattle.std.specs.Str.{str_to_ascii_uppercase}
 use Rattle.std.specs.FinMap.Entries.{find}
 use Rattle.std.specs.declared.cmp.Ordering.{Ordering}
@@ -110,7 +110,7 @@ module _ (home : Place) (names : Names) (changed : Rectangle → Bool) where
   })
 
 -- names are in an order in which each is tied with itself alone
-exact_names : IsExact name_cmp
+pub exact_names : IsExact name_cmp
 exact_names = record {
   itself = λ name. ap is_eq (tied_itself nat_list_cmp_total name);
   alone = λ name other same. exact_bytes name other (equal (name_cmp name other) same);

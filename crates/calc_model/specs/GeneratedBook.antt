@@ -1,7 +1,7 @@
 -- The generated book. In each of so many rows of the first sheet stand a number, computed from a start and the row
 -- alone; its double; the sum of the doubles down to that row; and from the eighth row on the sum of the last eight
 -- numbers.
-use Rattle.std.specs.Prelude.{ℕ, pos, ◌+◌, ◌-◌, ◌*◌, ◌%◌, ◌^◌, ◌==◌, false, codes, List, [], ◌∷◌, ◌++◌, map, if◌then◌else◌}
+use Rattle.std.specs.Prelude.{ℕ, pos, ◌+◌, ◌-◌, ◌*◌, ◌%◌, ◌^◌, ◌==◌, false, codes, [], ◌∷◌, ◌++◌, map, if◌then◌else◌}
 use Rattle.calc_addr.specs.Places.{from_to}
 use Rattle.calc_addr.specs.References.{Reference}
 use Rattle.calc_addr.specs.declared.reference.Marks.{Marks}

@@ -1,5 +1,5 @@
 -- How many entries there are with several more, at keys where there were none.
-use Rattle.std.proofs.Common.{◌≡◌, ◌≤◌, ◌+◌, suc, Bool, true, false, not, cond, List, [], ◌∷◌, length, map, refl, ap, subst, arith}
+use Rattle.std.proofs.Common.{◌≡◌, ◌+◌, suc, Bool, true, false, not, cond, List, [], ◌∷◌, length, map, refl, ap, subst, arith}
 use Rattle.std.specs.List.{AllByRecursion, list_all}
 use Rattle.std.specs.BTreeMap.{insert_entry}
 use Rattle.std.specs.Ordering.{eq_by_cmp, is_eq, is_lt, match_ordering}
@@ -11,7 +11,7 @@ use Rattle.calc_addr.proofs.Walking.Places.{Rises}
 use Rattle.calc_model.specs.declared.content.Content.{Content}
 use Rattle.calc_model.specs.CellEdits.{CellEntries, with_entries, within_area, without_area}
 use Rattle.calc_model.proofs.Areas.{both_true}
-use Rattle.calc_model.proofs.EntriesKept.{both_so, length-inserted}
+use Rattle.calc_model.proofs.EntriesKept.{both_so}
 use Rattle.calc_model.proofs.Places.{same_places}
 
 -- no entry is at that key

@@ -14,8 +14,8 @@ ghost use Rattle.calc_model.specs.GeneratedBook.{generated_book};
 ghost use Rattle.calc_model.specs.RowEdits.{cells_after_deletion, cells_after_insertion, is_pushed_out};
 ghost use Rattle.calc_model.specs.Step.{is_edit};
 
-use crate::generated::generated;
 use crate::copies::{area_at, copied_entries, count_within};
+use crate::generated::generated;
 use crate::rows::{Rows, deleted, inserted, is_pushed_out};
 use crate::runs::{first_in_run, remove_area};
 use calc_addr::{Area, Cell, LAST_ROW, LAST_SHEET, NoMemory};

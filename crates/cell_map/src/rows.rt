@@ -99,7 +99,11 @@ fn is_in_rows(cell: Cell, rows: Rows) -> bool
 }
 
 /// Puts a content into a cell.
-pub(crate) fn add(cells: &mut BTreeMap<Cell, Content>, cell: Cell, content: Content) -> Result<(), NoMemory>
+pub(crate) fn add(
+    cells: &mut BTreeMap<Cell, Content>,
+    cell: Cell,
+    content: Content,
+) -> Result<(), NoMemory>
     ensures { OnOk result (cells.new.entries
         ≡ insert_entry place_cmp cells.old.entries cell content) }
 {

@@ -1,3 +1,5 @@
+-- names that formulas use
+pub mod NamesIn
 -- sets of cells
 pub mod Sets
 -- the formulas that reach a touched cell
@@ -10,3 +12,5 @@ pub mod Steps
 pub mod Staleness
 -- what row edits leave
 pub mod RowChanges
+-- what edits of names leave
+pub mod NameChanges

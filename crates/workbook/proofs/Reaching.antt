@@ -44,28 +44,37 @@ pub found_within : (readers : List Reading) (found : List Place) → found_count
 unfolding found_count
 found_within readers found = count_within (λ (reader : Reading). contains_cell found reader.0) readers
 
-module _ (book : Book) (touched : CellSet) where
-  pub none_found : IsFound book touched []
-  none_found = record { formula = λ q h. cc; reached = λ q h. cc }
+module _ (book : Book) (touched users : CellSet) where
+  -- touched, or one of the users
+  abbrev all : CellSet
+  all q = touched q || users q
 
-  marked_reaches : (found : List Place) → IsFound book touched found → (q : Place) → marked touched found q ≡ true → Reaches book touched q
+  -- the users alone, which are formulas
+  pub users_found : (found : List Place) → ((q : Place) → contains_cell found q ≡ users q) → ((q : Place) → users q ≡ true → is_formula_cell book q ≡ true) → IsFound book touched users found
+  users_found found same formulas = record {
+    formula = λ q h. formulas q (sym (same q) ∙ h);
+    reached = λ q h. Reaches.itself (or_second (touched q) (users q) (sym (same q) ∙ h));
+    used = λ q h. same q ∙ h;
+  }
+
+  marked_reaches : (found : List Place) → IsFound book touched users found → (q : Place) → marked touched found q ≡ true → Reaches book all q
   marked_reaches found is q h =
       elim (either (touched q) (contains_cell found q) h) [
-        | inl here ↦ Reaches.itself here
+        | inl here ↦ Reaches.itself (or_first (touched q) (users q) here)
         | inr in_found ↦ is.reached q in_found
       ]
 
   -- a formula that is due reaches a touched cell
-  due_reaches : (found : List Place) → IsFound book touched found → (q : Place) → is_due touched found (q, reads book q) ≡ true → Reaches book touched q
+  due_reaches : (found : List Place) → IsFound book touched users found → (q : Place) → is_due touched found (q, reads book q) ≡ true → Reaches book all q
   due_reaches found is q h =
       elim (either (touched q) (any_cell (marked touched found) (reads book q)) h) [
-        | inl here ↦ Reaches.itself here
+        | inl here ↦ Reaches.itself (or_first (touched q) (users q) here)
         | inr reads_one ↦
             let read = some_cell (marked touched found) (reads book q) reads_one in
             Reaches.by_reading (read.2 (eq_by_cmp place_cmp read.0) (same_cell read.0)) (marked_reaches found is read.0 read.1)
       ]
 
-  pub found_with : (old new : List Place) (reader : Reading) → reader.1 ≡ reads book reader.0 → is_formula_cell book reader.0 ≡ true → Adds touched old new reader → IsFound book touched old → IsFound book touched new
+  pub found_with : (old new : List Place) (reader : Reading) → reader.1 ≡ reads book reader.0 → is_formula_cell book reader.0 ≡ true → Adds touched old new reader → IsFound book touched users old → IsFound book touched users new
   found_with old new reader read formula adds is =
       let due : is_due touched old (reader.0, reads book reader.0) ≡ true = subst (λ areas. (touched reader.0 || any_cell (marked touched old) areas) ≡ true) read adds.due in
       let reached = due_reaches old is reader.0 due in
@@ -74,10 +83,11 @@ module _ (book : Book) (touched : CellSet) where
           | true ↦ λ same. subst (λ p. is_formula_cell book p ≡ true) (same_places reader.0 q same) formula
           | false ↦ λ other. is.formula q (sym (adds.found q ∙ ap (λ b. cond b true (contains_cell old q)) other) ∙ h)
         ] refl;
-        reached = λ q h. elim (eq_by_cmp place_cmp reader.0 q) as (λ b. eq_by_cmp place_cmp reader.0 q ≡ b → Reaches book touched q) [
-          | true ↦ λ same. subst (Reaches book touched) (same_places reader.0 q same) reached
+        reached = λ q h. elim (eq_by_cmp place_cmp reader.0 q) as (λ b. eq_by_cmp place_cmp reader.0 q ≡ b → Reaches book all q) [
+          | true ↦ λ same. subst (Reaches book all) (same_places reader.0 q same) reached
           | false ↦ λ other. is.reached q (sym (adds.found q ∙ ap (λ b. cond b true (contains_cell old q)) other) ∙ h)
         ] refl;
+        used = λ q h. stays_found touched old new reader adds q (is.used q h);
       }
 
   reads_none : (x : Content) (q : Place) → is_formula x ≡ false → content_areas q (area_named book) x ≡ []
@@ -91,13 +101,17 @@ module _ (book : Book) (touched : CellSet) where
   settled_due false true h due = cc
   settled_due false false h due = cc
 
-  module _ (found : List Place) (settled : (q : Place) → is_formula_cell book q ≡ true → is_settled touched found (q, reads book q) ≡ true) where
+  module _ (found : List Place) (used : (q : Place) → users q ≡ true → contains_cell found q ≡ true) (settled : (q : Place) → is_formula_cell book q ≡ true → is_settled touched found (q, reads book q) ≡ true) where
     closed : (q : Place) → is_formula_cell book q ≡ true → is_due touched found (q, reads book q) ≡ true → contains_cell found q ≡ true
     closed q formula due = settled_due (contains_cell found q) (is_due touched found (q, reads book q)) (settled q formula) due
 
     -- each cell that reaches a touched one is touched or found
-    all_marked : (q : Place) → Reaches book touched q → marked touched found q ≡ true
-    all_marked q (Reaches.itself is) = or_first (touched q) (contains_cell found q) is
+    all_marked : (q : Place) → Reaches book all q → marked touched found q ≡ true
+    all_marked q (Reaches.itself is) =
+        elim (either (touched q) (users q) is) [
+          | inl here ↦ or_first (touched q) (contains_cell found q) here
+          | inr user ↦ or_second (touched q) (contains_cell found q) (used q user)
+        ]
     all_marked q (Reaches.by_reading {read = read} reads_it reached) =
         let reads_marked : any_cell (marked touched found) (reads book q) ≡ true = reads_passing (marked touched found) (reads book q) read reads_it (all_marked read reached) in
         elim (is_formula_cell book q) as (λ b. is_formula_cell book q ≡ b → marked touched found q ≡ true) [
@@ -117,20 +131,20 @@ module _ (book : Book) (touched : CellSet) where
 
   -- the readers' settlement, each with what the book says that it reads
   all_here : (found : List Place) (readers : List Reading) → AllByRecursion (IsReader book) readers → list_all (is_settled touched found) readers ≡ true → AllByRecursion (λ (reader : Reading). is_settled touched found (reader.0, reads book reader.0) ≡ true) readers
-  all_here found [] each all = tt
-  all_here found (r ∷ rs) each all =
-      let parts = both_true (is_settled touched found r) (list_all (is_settled touched found) rs) all in
+  all_here found [] each settled = tt
+  all_here found (r ∷ rs) each settled =
+      let parts = both_true (is_settled touched found r) (list_all (is_settled touched found) rs) settled in
       (settled_here found r each.0 parts.0, all_here found rs each.1 parts.1)
 
   readers_settled : (readers : List Reading) (found : List Place) → AreReaders book readers → list_all (is_settled touched found) readers ≡ true → (q : Place) → is_formula_cell book q ≡ true → is_settled touched found (q, reads book q) ≡ true
-  readers_settled readers found are all q formula =
-      let reader = reader_at book _ readers q (all_here found readers (recursion_from_All (IsReader book) readers are.each) all) (are.every q formula) in
+  readers_settled readers found are settled q formula =
+      let reader = reader_at book _ readers q (all_here found readers (recursion_from_All (IsReader book) readers are.each) settled) (are.every q formula) in
       subst (λ p. is_settled touched found (p, reads book p) ≡ true) reader.1 reader.2
 
   -- where each formula is settled, exactly those are found that reach a touched cell
-  pub all_found : (readers : List Reading) (found : List Place) → AreReaders book readers → IsFound book touched found → list_all (is_settled touched found) readers ≡ true → (q : Place) → contains_cell found q ≡ (is_formula_cell book q && reaches book touched q)
-  all_found readers found are is all q =
-      let settled = λ (p : Place) (formula : is_formula_cell book p ≡ true). readers_settled readers found are all p formula in
+  pub all_found : (readers : List Reading) (found : List Place) → AreReaders book readers → IsFound book touched users found → list_all (is_settled touched found) readers ≡ true → (q : Place) → contains_cell found q ≡ (is_formula_cell book q && reaches book (λ p. touched p || users p) q)
+  all_found readers found are is each q =
+      let settled = λ (p : Place) (formula : is_formula_cell book p ≡ true). readers_settled readers found are each p formula in
       same_tests _ _
-      (λ h. and_from _ _ (is.formula q h) (reaches_at_all book touched q (is.reached q h)))
-      (λ h. found_by_mark found settled q (and_parts _ _ h).0 (all_marked found settled q (reaches_indeed book touched q (and_parts _ _ h).1)))
+      (λ h. and_from _ _ (is.formula q h) (reaches_at_all book all q (is.reached q h)))
+      (λ h. found_by_mark found is.used settled q (and_parts _ _ h).0 (all_marked found is.used settled q (reaches_indeed book all q (and_parts _ _ h).1)))

@@ -1,6 +1,6 @@
 -- What inserted and deleted rows leave: cells that they don't touch stay where they are and hold what they held.
 use Rattle.std.proofs.Common.{◌≡◌, ◌<◌, ◌+◌, ◌-◌, nat_le, ℕ, Bool, true, false, ◌&&◌, ◌||◌, not, cond, List, [], ◌∷◌, map, Option, Some, None, unwrap_or, refl, sym, ap, subst, ◌∙◌, ◌⊎◌, inl, inr, arith}
-use Rattle.std.specs.Prelude.{◌==◌}
+use Rattle.std.specs.Prelude.{◌==◌, Err, Ok, OnOk, Result}
 use Rattle.std.specs.List.{AllByRecursion, filter, list_all, list_any}
 use Rattle.std.specs.Option.{option_map}
 use Rattle.std.specs.Ordering.{eq_by_cmp, is_eq, nat_cmp, ordering_then}
@@ -14,16 +14,18 @@ use Rattle.calc_addr.specs.Shifts.{is_deleted, row_after_deletion, row_after_ins
 use Rattle.calc_model.specs.declared.tree.Tree.{Tree}
 use Rattle.calc_model.specs.declared.content.Content.{Content}
 use Rattle.calc_model.specs.declared.content.Content.TheVariants.{Empty, Constant, Formula, Raw}
-use Rattle.calc_model.specs.Books.{Book, IsBook, area_named, content_at, is_cell_entry, is_content, is_formula, is_place}
+use Rattle.calc_model.specs.Books.{Book, IsBook, NameEntries, area_named, content_at, entry_named, is_cell_entry, is_content, is_formula, is_place}
 use Rattle.calc_model.specs.CellEdits.{CellEntries, with_tree}
 use Rattle.calc_model.specs.Homes.{home_after_deletion, home_after_insertion}
-use Rattle.calc_model.specs.Reads.{content_areas, reads}
+use Rattle.calc_model.specs.NamedAreas.{names_after_deletion, names_after_insertion}
+use Rattle.calc_model.specs.Reads.{Names, areas, content_areas, reads}
 use Rattle.calc_model.specs.RowEdits.{cells_after_deletion, cells_after_insertion, is_changed_by_deletion, is_changed_by_insertion, is_in_rows}
 use Rattle.calc_model.specs.Stale.{is_formula_cell}
 use Rattle.calc_model.specs.Touched.{CellSet, is_from_row, origin, reads_any, rows_from}
 use Rattle.calc_model.specs.TreeShifts.{tree_after_deletion, tree_after_insertion}
 use Rattle.calc_model.proofs.Areas.{both_true}
 use Rattle.calc_model.proofs.EntriesMoved.{all-filtered}
+use Rattle.calc_model.proofs.NamedReads.{deleted_reads, inserted_reads}
 use Rattle.calc_model.proofs.Places.{same_places}
 use Rattle.calc_model.proofs.Reached.{either, or_first, or_second, same_cell}
 use Rattle.calc_model.proofs.RowsKept.{home_is}
@@ -33,46 +35,54 @@ use Rattle.std.proofs.lemmas.Map.Entries.{lookup-filter-keys}
 use Rattle.cell_map.proofs.Lookups.{find-lookup}
 use Rattle.plain_evaluator.specs.Plain.{AreReaders, IsReader}
 use Rattle.plain_evaluator.proofs.Covered.{same_tests}
+use Rattle.plain_evaluator.proofs.Formulas.{Reading}
 use Rattle.calc_model.specs.declared.edit.Edit.TheVariants.{InsertRows, DeleteRows}
-use Rattle.workbook.specs.Rows.{is_reader_of}
-use Rattle.workbook.specs.Touched.{is_touched}
+use Rattle.workbook.specs.Readers.{is_reader_of}
+use Rattle.workbook.specs.Touched.{lies_in}
 use Rattle.workbook.specs.Workbook.{Stales, State}
-use Rattle.workbook.proofs.Staleness.{reads_kept, stale_moved}
+use Rattle.workbook.proofs.Staleness.{stale_moved}
 
--- the cells of the readers of some areas are those that read one of them
-module _ (book : Book) (changes : Rectangle → Bool) (q : Place) where
-  to_reads : (rs : List (Place × List Rectangle)) → AllByRecursion (IsReader book) rs → list_any (is_reader_of changes q) rs ≡ true → reads_any book changes q ≡ true
-  to_reads [] each h = cc
-  to_reads (r ∷ rs) each h =
-      elim (either (is_reader_of changes q r) (list_any (is_reader_of changes q) rs) h) [
+-- the cells of the readers that pass a test are those that pass it, where formulas alone pass
+module _ (book : Book) (test : Place → Bool) (passes : Reading → Bool) (same : (r : Reading) → IsReader book r → passes r ≡ test r.0) (q : Place) where
+  abbrev is_one : Reading → Bool
+  is_one r = eq_by_cmp place_cmp r.0 q && passes r
+
+  to_test : (rs : List Reading) → AllByRecursion (IsReader book) rs → list_any is_one rs ≡ true → test q ≡ true
+  to_test [] each h = cc
+  to_test (r ∷ rs) each h =
+      elim (either (is_one r) (list_any is_one rs) h) [
         | inl is ↦
-            let parts = both_true (eq_by_cmp place_cmp r.0 q) (list_any changes r.1) is in
-            ap (list_any changes) (sym (each.0.areas ∙ ap (reads book) (same_places r.0 q parts.0))) ∙ parts.1
-        | inr later ↦ to_reads rs each.1 later
+            let parts = both_true (eq_by_cmp place_cmp r.0 q) (passes r) is in
+            ap test (sym (same_places r.0 q parts.0)) ∙ sym (same r each.0) ∙ parts.1
+        | inr later ↦ to_test rs each.1 later
       ]
 
-  from_reads : (rs : List (Place × List Rectangle)) → AllByRecursion (IsReader book) rs → list_any (λ r. eq_by_cmp place_cmp q r.0) rs ≡ true → reads_any book changes q ≡ true → list_any (is_reader_of changes q) rs ≡ true
-  from_reads [] each h reading = h
-  from_reads (r ∷ rs) each h reading =
+  from_test : (rs : List Reading) → AllByRecursion (IsReader book) rs → list_any (λ r. eq_by_cmp place_cmp q r.0) rs ≡ true → test q ≡ true → list_any is_one rs ≡ true
+  from_test [] each h passed = h
+  from_test (r ∷ rs) each h passed =
       elim (either (eq_by_cmp place_cmp q r.0) (list_any (λ r. eq_by_cmp place_cmp q r.0) rs) h) [
         | inl is ↦
-            let same : q ≡ r.0 = same_places q r.0 is in
-            let here : eq_by_cmp place_cmp r.0 q ≡ true = subst (λ p. eq_by_cmp place_cmp p q ≡ true) same (same_cell q) in
-            let any : list_any changes r.1 ≡ true = ap (list_any changes) (each.0.areas ∙ ap (reads book) (sym same)) ∙ reading in
-            or_first (is_reader_of changes q r) (list_any (is_reader_of changes q) rs) (ap (λ b. b && list_any changes r.1) here ∙ any)
-        | inr later ↦ or_second (is_reader_of changes q r) (list_any (is_reader_of changes q) rs) (from_reads rs each.1 later reading)
+            let at : q ≡ r.0 = same_places q r.0 is in
+            let here : eq_by_cmp place_cmp r.0 q ≡ true = subst (λ p. eq_by_cmp place_cmp p q ≡ true) at (same_cell q) in
+            or_first (is_one r) (list_any is_one rs) (ap (λ b. b && passes r) here ∙ same r each.0 ∙ ap test (sym at) ∙ passed)
+        | inr later ↦ or_second (is_one r) (list_any is_one rs) (from_test rs each.1 later passed)
       ]
 
+  pub readers_pass : (rs : List Reading) → AreReaders book rs → (test q ≡ true → is_formula_cell book q ≡ true) → list_any is_one rs ≡ test q
+  readers_pass rs are formulas =
+      let each = recursion_from_All _ rs are.each in
+      same_tests _ _ (to_test rs each) (λ passed. from_test rs each (are.every q (formulas passed)) passed)
+
+module _ (book : Book) (changes : Rectangle → Bool) (q : Place) where
   reads_formula : (content : Content) → list_any changes (content_areas q (area_named book) content) ≡ true → is_formula content ≡ true
   reads_formula Empty h = h
   reads_formula (Constant value) h = h
   reads_formula (Formula tree) h = refl
   reads_formula (Raw text) h = h
 
-  pub readers_read : (rs : List (Place × List Rectangle)) → AreReaders book rs → list_any (is_reader_of changes q) rs ≡ reads_any book changes q
+  pub readers_read : (rs : List Reading) → AreReaders book rs → list_any (is_reader_of changes q) rs ≡ reads_any book changes q
   readers_read rs are =
-      let each = recursion_from_All _ rs are.each in
-      same_tests _ _ (to_reads rs each) (λ reading. from_reads rs each (are.every q (reads_formula (content_at book q) reading)) reading)
+      readers_pass book (reads_any book changes) (λ r. list_any changes r.1) (λ r is. ap (list_any changes) is.areas) q rs are (reads_formula (content_at book q))
 
 -- where a cell is found among cells at other places, of which none comes to it that wasn't there
 module _ (goes : Place → Place) (change : Place → Tree → Tree) (stays : Place → Bool) (q : Place) (same : (p : Place) → stays p ≡ true → eq_by_cmp place_cmp q (goes p) ≡ eq_by_cmp place_cmp q p) where
@@ -243,20 +253,50 @@ origin_inserted sheet place count q above =
 origin_deleted : (sheet place count : ℕ) (q : Place) → is_from_row sheet place q ≡ false → origin (DeleteRows sheet place count) q ≡ Some q
 origin_deleted sheet place count q above = ap (λ b. cond b (Some (record q { row = q.row + count })) (Some q)) above
 
-module _ (before after : State) (sheet place count : ℕ) (was : IsBook before.book) (is : IsBook after.book) (unnamed : after.book.names ≡ before.book.names) where
+-- what follows from two facts on success
+pub on_ok_both : {T E : Type 0} {P Q R : Type 0} (result : Result T E) → (P → Q → R) → OnOk result P → OnOk result Q → OnOk result R
+on_ok_both (Ok x) f p q = f p q
+on_ok_both (Err e) f p q = tt
+
+-- a formula reads by other names what it reads by the first, where its tree does
+names_read : (home : Place) (first second : Names) (content : Content) → ((tree : Tree) → content ≡ Formula tree → areas home second tree ≡ areas home first tree) → content_areas home second content ≡ content_areas home first content
+names_read home first second Empty same = refl
+names_read home first second (Constant value) same = refl
+names_read home first second (Formula tree) same = same tree refl
+names_read home first second (Raw text) same = refl
+
+-- a cell that keeps its content, in a book whose names are others
+pub reads_by_names : (before after : Book) (named : NameEntries) (q : Place) → after.names ≡ named → content_at after q ≡ content_at before q → ((tree : Tree) → content_at before q ≡ Formula tree → areas q (entry_named named) tree ≡ areas q (area_named before) tree) → reads after q ≡ reads before q
+reads_by_names before after named q names same trees =
+    ap (λ entries. content_areas q (entry_named entries) (content_at after q)) names
+    ∙ ap (content_areas q (entry_named named)) same
+    ∙ names_read q (area_named before) (entry_named named) (content_at before q) trees
+
+module _ (before after : State) (sheet place count : ℕ) (was : IsBook before.book) (is : IsBook after.book) (touched : after.touched.names ≡ before.touched.names) where
   above_untouched : (changed : Rectangle → Bool) (q : Place) → is_formula_cell after.book q ≡ true → (covers (rows_from sheet place) q || reads_any before.book changed q) ≡ false → is_from_row sheet place q ≡ false
   above_untouched changed q formula untouched = above_rows sheet place q (formula_place after.book is q formula) (neither (covers (rows_from sheet place) q) (reads_any before.book changed q) untouched).0
 
-  pub insertion_stale : after.book.cells ≡ cells_after_insertion sheet place count before.book.cells → ((q : Place) → is_touched after.touched q ≡ (is_touched before.touched q || (covers (rows_from sheet place) q || reads_any before.book (is_changed_by_insertion sheet place count) q))) → Stales before (InsertRows sheet place count) after
-  insertion_stale cells joined =
-      let edited : CellSet = λ q. covers (rows_from sheet place) q || reads_any before.book (is_changed_by_insertion sheet place count) q in
-      let same = insertion_leaves before.book after.book sheet place count was is cells in
-      stale_moved before after (InsertRows sheet place count) edited (reads_kept before.book after.book unnamed edited same) (λ q apart. ap is_formula (same q apart))
-      (λ q formula apart. origin_inserted sheet place count q (above_untouched (is_changed_by_insertion sheet place count) q formula apart)) joined
+  reads_nothing_changed : (changed : Rectangle → Bool) (q : Place) (tree : Tree) → (covers (rows_from sheet place) q || reads_any before.book changed q) ≡ false → content_at before.book q ≡ Formula tree → list_any changed (areas q (area_named before.book) tree) ≡ false
+  reads_nothing_changed changed q tree untouched holds =
+      ap (λ content. list_any changed (content_areas q (area_named before.book) content)) (sym holds)
+      ∙ (neither (covers (rows_from sheet place) q) (reads_any before.book changed q) untouched).1
 
-  pub deletion_stale : after.book.cells ≡ cells_after_deletion sheet place count before.book.cells → ((q : Place) → is_touched after.touched q ≡ (is_touched before.touched q || (covers (rows_from sheet place) q || reads_any before.book (is_changed_by_deletion sheet place count) q))) → Stales before (DeleteRows sheet place count) after
-  deletion_stale cells joined =
-      let edited : CellSet = λ q. covers (rows_from sheet place) q || reads_any before.book (is_changed_by_deletion sheet place count) q in
+  pub insertion_stale : after.book.cells ≡ cells_after_insertion sheet place count before.book.cells → after.book.names ≡ names_after_insertion sheet place count before.book.names → ((q : Place) → lies_in after.touched q ≡ (lies_in before.touched q || (covers (rows_from sheet place) q || reads_any before.book (is_changed_by_insertion sheet place count) q))) → Stales before (InsertRows sheet place count) after
+  insertion_stale cells names lies =
+      let changed = is_changed_by_insertion sheet place count in
+      let edited : CellSet = λ q. covers (rows_from sheet place) q || reads_any before.book changed q in
+      let same = insertion_leaves before.book after.book sheet place count was is cells in
+      stale_moved before after (InsertRows sheet place count) edited
+      (λ q apart. reads_by_names before.book after.book (names_after_insertion sheet place count before.book.names) q names (same q apart) (λ tree holds. inserted_reads q before.book.names sheet place count tree (reads_nothing_changed changed q tree apart holds)))
+      same
+      (λ q formula apart. origin_inserted sheet place count q (above_untouched changed q formula apart)) touched lies
+
+  pub deletion_stale : after.book.cells ≡ cells_after_deletion sheet place count before.book.cells → after.book.names ≡ names_after_deletion sheet place count before.book.names → ((q : Place) → lies_in after.touched q ≡ (lies_in before.touched q || (covers (rows_from sheet place) q || reads_any before.book (is_changed_by_deletion sheet place count) q))) → Stales before (DeleteRows sheet place count) after
+  deletion_stale cells names lies =
+      let changed = is_changed_by_deletion sheet place count in
+      let edited : CellSet = λ q. covers (rows_from sheet place) q || reads_any before.book changed q in
       let same = deletion_leaves before.book after.book sheet place count was is cells in
-      stale_moved before after (DeleteRows sheet place count) edited (reads_kept before.book after.book unnamed edited same) (λ q apart. ap is_formula (same q apart))
-      (λ q formula apart. origin_deleted sheet place count q (above_untouched (is_changed_by_deletion sheet place count) q formula apart)) joined
+      stale_moved before after (DeleteRows sheet place count) edited
+      (λ q apart. reads_by_names before.book after.book (names_after_deletion sheet place count before.book.names) q names (same q apart) (λ tree holds. deleted_reads q before.book.names sheet place count tree (reads_nothing_changed changed q tree apart holds)))
+      same
+      (λ q formula apart. origin_deleted sheet place count q (above_untouched changed q formula apart)) touched lies

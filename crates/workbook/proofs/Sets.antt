@@ -13,7 +13,7 @@ use Rattle.calc_model.proofs.Areas.{Inside, all_places, both_true, covered, insi
 use Rattle.calc_model.proofs.Places.{same_places}
 use Rattle.calc_model.proofs.Reached.{either, or_first, or_second, or_true, same_cell, some_item}
 use Rattle.plain_evaluator.proofs.Covered.{same_tests}
-use Rattle.workbook.specs.Touched.{Parts, contains_cell, is_touched}
+use Rattle.workbook.specs.Touched.{Parts, contains_cell, lies_in}
 
 -- a new cell that is taken out again leaves the cells as they were
 key_taken_back : (cells : List Place) (cell : Place) → contains_cell cells cell ≡ false → remove_key (is_at (place_cmp cell)) (insert_key place_cmp cells cell) ≡ cells
@@ -148,20 +148,20 @@ any_met (other ∷ rest) area =
     ∙ sym (list_any-or (covers other) (λ cell. list_any (λ a. covers a cell) rest) (places area))
 
 module _ (parts : Parts) where
-  pub touched_by_all : (q : Place) → parts.all ≡ true → is_touched parts q ≡ true
-  unfolding is_touched
+  pub touched_by_all : (q : Place) → parts.all ≡ true → lies_in parts q ≡ true
+  unfolding lies_in
   touched_by_all q all = or_first (parts.all || contains_cell parts.cells q) (list_any (λ a. covers a q) parts.areas) (or_first parts.all (contains_cell parts.cells q) all)
 
-  pub touched_by_cell : (q : Place) → contains_cell parts.cells q ≡ true → is_touched parts q ≡ true
-  unfolding is_touched
+  pub touched_by_cell : (q : Place) → contains_cell parts.cells q ≡ true → lies_in parts q ≡ true
+  unfolding lies_in
   touched_by_cell q is = or_first (parts.all || contains_cell parts.cells q) (list_any (λ a. covers a q) parts.areas) (or_second parts.all (contains_cell parts.cells q) is)
 
-  pub touched_by_area : (q : Place) → list_any (λ a. covers a q) parts.areas ≡ true → is_touched parts q ≡ true
-  unfolding is_touched
+  pub touched_by_area : (q : Place) → list_any (λ a. covers a q) parts.areas ≡ true → lies_in parts q ≡ true
+  unfolding lies_in
   touched_by_area q is = or_second (parts.all || contains_cell parts.cells q) (list_any (λ a. covers a q) parts.areas) is
 
-  pub how_touched : (q : Place) → is_touched parts q ≡ true → ((parts.all ≡ true) ⊎ (contains_cell parts.cells q ≡ true)) ⊎ (list_any (λ a. covers a q) parts.areas ≡ true)
-  unfolding is_touched
+  pub how_touched : (q : Place) → lies_in parts q ≡ true → ((parts.all ≡ true) ⊎ (contains_cell parts.cells q ≡ true)) ⊎ (list_any (λ a. covers a q) parts.areas ≡ true)
+  unfolding lies_in
   how_touched q h =
       elim (either (parts.all || contains_cell parts.cells q) (list_any (λ a. covers a q) parts.areas) h) [
         | inl front ↦ inl (either parts.all (contains_cell parts.cells q) front)
@@ -175,33 +175,33 @@ module _ (parts : Parts) where
     abbrev wide : Bool
     wide = list_any (λ other. list_any (covers other) (places area)) parts.areas
 
-    to_parts : list_any (is_touched parts) (places area) ≡ true → ((is_touched parts q || single) || wide) ≡ true
+    to_parts : list_any (lies_in parts) (places area) ≡ true → ((lies_in parts q || single) || wide) ≡ true
     to_parts any =
-        let p = some_place (is_touched parts) area any in
+        let p = some_place (lies_in parts) area any in
         elim (how_touched p.0 p.1) [
-          | inl (inl all) ↦ or_first (is_touched parts q || single) wide (or_first (is_touched parts q) single (touched_by_all q all))
-          | inl (inr is) ↦ or_first (is_touched parts q || single) wide (or_second (is_touched parts q) single (any_place (contains_cell parts.cells) area p.0 p.2 is))
+          | inl (inl all) ↦ or_first (lies_in parts q || single) wide (or_first (lies_in parts q) single (touched_by_all q all))
+          | inl (inr is) ↦ or_first (lies_in parts q || single) wide (or_second (lies_in parts q) single (any_place (contains_cell parts.cells) area p.0 p.2 is))
           | inr in_area ↦
               let other = some_item (λ a. covers a p.0) parts.areas in_area in
-              or_second (is_touched parts q || single) wide (other.2 (λ a. list_any (covers a) (places area)) (any_place (covers other.0) area p.0 p.2 other.1))
+              or_second (lies_in parts q || single) wide (other.2 (λ a. list_any (covers a) (places area)) (any_place (covers other.0) area p.0 p.2 other.1))
         ]
 
-    from_parts : ((is_touched parts q || single) || wide) ≡ true → list_any (is_touched parts) (places area) ≡ true
+    from_parts : ((lies_in parts q || single) || wide) ≡ true → list_any (lies_in parts) (places area) ≡ true
     from_parts h =
-        elim (either (is_touched parts q || single) wide h) [
-          | inl front ↦ elim (either (is_touched parts q) single front) [
-            | inl here ↦ any_place (is_touched parts) area q covered here
-            | inr is ↦ let p = some_place (contains_cell parts.cells) area is in any_place (is_touched parts) area p.0 p.2 (touched_by_cell p.0 p.1)
+        elim (either (lies_in parts q || single) wide h) [
+          | inl front ↦ elim (either (lies_in parts q) single front) [
+            | inl here ↦ any_place (lies_in parts) area q covered here
+            | inr is ↦ let p = some_place (contains_cell parts.cells) area is in any_place (lies_in parts) area p.0 p.2 (touched_by_cell p.0 p.1)
           ]
           | inr some ↦
               let other = some_item (λ a. list_any (covers a) (places area)) parts.areas some in
               let p = some_place (covers other.0) area other.1 in
-              any_place (is_touched parts) area p.0 p.2 (touched_by_area p.0 (other.2 (λ a. covers a p.0) p.1))
+              any_place (lies_in parts) area p.0 p.2 (touched_by_area p.0 (other.2 (λ a. covers a p.0) p.1))
         ]
 
     -- an area has a touched cell where a given cell of it is touched, or one of the single cells or a cell of the
     -- areas lies in it
-    pub touched_in : list_any (is_touched parts) (places area) ≡ ((is_touched parts q || single) || wide)
+    pub touched_in : list_any (lies_in parts) (places area) ≡ ((lies_in parts q || single) || wide)
     touched_in = same_tests _ _ to_parts from_parts
 
 -- the cell where areas may meet decides
@@ -214,8 +214,8 @@ meet_else a b q is not_in_a =
     sym not_in_a ∙ ap (λ x. x && covers b q) not_in_a ∙ ap (λ p. covers a p && covers b p) is ∙ common_cell a b
 
 -- where the given cell isn't touched, the single cells and the areas decide
-pub touched_beside : (parts shown : Parts) → parts ≡ shown → (area : Rectangle) (q : Place) → covers area q ≡ true → false ≡ is_touched shown q → (list_any (contains_cell parts.cells) (places area) || list_any (λ other. list_any (covers other) (places area)) parts.areas) ≡ list_any (is_touched shown) (places area)
+pub touched_beside : (parts shown : Parts) → parts ≡ shown → (area : Rectangle) (q : Place) → covers area q ≡ true → false ≡ lies_in shown q → (list_any (contains_cell parts.cells) (places area) || list_any (λ other. list_any (covers other) (places area)) parts.areas) ≡ list_any (lies_in shown) (places area)
 touched_beside parts shown same area q covered untouched =
     ap (λ b. (b || list_any (contains_cell parts.cells) (places area)) || list_any (λ other. list_any (covers other) (places area)) parts.areas) untouched
-    ∙ ap (λ (p : Parts). (is_touched shown q || list_any (contains_cell p.cells) (places area)) || list_any (λ other. list_any (covers other) (places area)) p.areas) same
+    ∙ ap (λ (p : Parts). (lies_in shown q || list_any (contains_cell p.cells) (places area)) || list_any (λ other. list_any (covers other) (places area)) p.areas) same
     ∙ sym (touched_in shown area q covered)

@@ -15,9 +15,10 @@ use Rattle.calc_model.specs.Stale.{Reaches, any_cell, count_in, is_formula_cell,
 use Rattle.std.specs.Option.{option_map_or}
 use Rattle.calc_model.specs.declared.edit.Edit.{Edit}
 use Rattle.calc_model.specs.Touched.{CellSet, moved, origin}
-use Rattle.calc_model.proofs.Reached.{either, or_first, or_second, reaches_at_all, reaches_indeed}
+use Rattle.calc_model.proofs.Reached.{either, or_first, or_second, or_true, reaches_at_all, reaches_indeed}
 use Rattle.plain_evaluator.proofs.Covered.{same_tests}
-use Rattle.workbook.specs.Touched.{contains_cell, is_touched}
+use Rattle.workbook.specs.Touched.{contains_cell, is_touched, lies_in, uses_any}
+use Rattle.workbook.proofs.NamesIn.{uses_none}
 use Rattle.workbook.specs.Workbook.{State, stale_of}
 
 -- names and contents that stay leave what cells read
@@ -103,26 +104,38 @@ none_reached book cells none q (Reaches.by_reading {read = read} reads_it reache
 pub reaches_none : (book : Book) (cells : CellSet) → ((q : Place) → cells q ≡ false) → (q : Place) → reaches book cells q ≡ false
 reaches_none book cells none q = false_from_ne_true _ (λ h. none_reached book cells none q (reaches_indeed book cells q h))
 
+-- the cells that an edit touches join those before, where it leaves the others as they were
+module _ (before after : State) (edited : CellSet) (names : after.touched.names ≡ before.touched.names) (same : (q : Place) → edited q ≡ false → content_at after.book q ≡ content_at before.book q) (lies : (q : Place) → lies_in after.touched q ≡ (lies_in before.touched q || edited q)) where
+  abbrev used : CellSet
+  used q = uses_any before.touched.names (content_at before.book q)
+
+  with_edited : (old uses edit now now_uses : Bool) → now ≡ (old || edit) → (edit ≡ false → now_uses ≡ uses) → (now || now_uses) ≡ ((old || uses) || edit)
+  with_edited true uses edit now now_uses is kept = ap (λ b. b || now_uses) is
+  with_edited false uses true now now_uses is kept = ap (λ b. b || now_uses) is ∙ sym (or_true uses)
+  with_edited false true false now now_uses is kept = ap (λ b. b || now_uses) is ∙ kept refl
+  with_edited false false false now now_uses is kept = ap (λ b. b || now_uses) is ∙ kept refl
+
+  pub touched_joined : (q : Place) → is_touched after.book after.touched q ≡ (is_touched before.book before.touched q || edited q)
+  touched_joined q =
+      with_edited (lies_in before.touched q) (used q) (edited q) (lies_in after.touched q) (uses_any after.touched.names (content_at after.book q)) (lies q)
+      (λ apart. ap (λ names. uses_any names (content_at after.book q)) names ∙ ap (uses_any before.touched.names) (same q apart))
+
 -- a workbook whose cells changed where an edit touches them, and which keeps what was touched
-pub stale_more : (before after : State) (edited : CellSet) → after.book.names ≡ before.book.names → ((q : Place) → edited q ≡ false → content_at after.book q ≡ content_at before.book q) → ((q : Place) → is_touched after.touched q ≡ (is_touched before.touched q || edited q)) → (q : Place) → stale_of after q ≡ (is_formula_cell after.book q && (stale_of before q || reaches after.book edited q))
+pub stale_more : (before after : State) (edited : CellSet) → after.book.names ≡ before.book.names → ((q : Place) → edited q ≡ false → content_at after.book q ≡ content_at before.book q) → after.touched.names ≡ before.touched.names → ((q : Place) → lies_in after.touched q ≡ (lies_in before.touched q || edited q)) → (q : Place) → stale_of after q ≡ (is_formula_cell after.book q && (stale_of before q || reaches after.book edited q))
 unfolding stale_of
-stale_more before after edited names same joined q =
-    stale_joined before.book after.book (is_touched before.touched) edited (is_touched after.touched) (reads_kept before.book after.book names edited same) (λ q apart. ap is_formula (same q apart)) joined q
+stale_more before after edited names same touched lies q =
+    stale_joined before.book after.book (is_touched before.book before.touched) edited (is_touched after.book after.touched) (reads_kept before.book after.book names edited same) (λ q apart. ap is_formula (same q apart)) (touched_joined before after edited touched same lies) q
 
 swap_stale : (formula was moved reached : Bool) → (formula ≡ true → reached ≡ false → moved ≡ was) → (formula && (was || reached)) ≡ (formula && (moved || reached))
 swap_stale false was moved reached same = refl
 swap_stale true was moved true same = or_true was ∙ sym (or_true moved)
-  where
-    or_true : (b : Bool) → (b || true) ≡ true
-    or_true true = refl
-    or_true false = refl
 swap_stale true was moved false same = ap (λ b. b || false) (sym (same refl refl))
 
 -- a workbook in which cells that an edit doesn't touch stay where they were, and read what they read
-pub stale_moved : (before after : State) (edit : Edit) (edited : CellSet) → ((q : Place) → edited q ≡ false → reads after.book q ≡ reads before.book q) → ((q : Place) → edited q ≡ false → is_formula_cell after.book q ≡ is_formula_cell before.book q) → ((q : Place) → is_formula_cell after.book q ≡ true → edited q ≡ false → origin edit q ≡ Some q) → ((q : Place) → is_touched after.touched q ≡ (is_touched before.touched q || edited q)) → (q : Place) → stale_of after q ≡ (is_formula_cell after.book q && (moved edit (stale_of before) q || reaches after.book edited q))
+pub stale_moved : (before after : State) (edit : Edit) (edited : CellSet) → ((q : Place) → edited q ≡ false → reads after.book q ≡ reads before.book q) → ((q : Place) → edited q ≡ false → content_at after.book q ≡ content_at before.book q) → ((q : Place) → is_formula_cell after.book q ≡ true → edited q ≡ false → origin edit q ≡ Some q) → after.touched.names ≡ before.touched.names → ((q : Place) → lies_in after.touched q ≡ (lies_in before.touched q || edited q)) → (q : Place) → stale_of after q ≡ (is_formula_cell after.book q && (moved edit (stale_of before) q || reaches after.book edited q))
 unfolding stale_of
-stale_moved before after edit edited same_reads same_formula stays joined q =
-    stale_joined before.book after.book (is_touched before.touched) edited (is_touched after.touched) same_reads same_formula joined q
+stale_moved before after edit edited same_reads same stays touched lies q =
+    stale_joined before.book after.book (is_touched before.book before.touched) edited (is_touched after.book after.touched) same_reads (λ q apart. ap is_formula (same q apart)) (touched_joined before after edited touched same lies) q
     ∙ swap_stale (is_formula_cell after.book q) (stale_of before q) (moved edit (stale_of before) q) (reaches after.book edited q) (λ formula apart. ap (λ o. option_map_or (stale_of before) o false) (stays q formula (not_edited apart)))
   where
     not_edited : reaches after.book edited q ≡ false → edited q ≡ false
@@ -137,17 +150,17 @@ and_false true = refl
 and_false false = refl
 
 -- with every cell touched, each formula is stale
-pub all_stale : (state : State) → ((q : Place) → is_touched state.touched q ≡ true) → (q : Place) → stale_of state q ≡ is_formula_cell state.book q
+pub all_stale : (state : State) → ((q : Place) → lies_in state.touched q ≡ true) → (q : Place) → stale_of state q ≡ is_formula_cell state.book q
 unfolding stale_of
 all_stale state all q =
-    ap (λ b. is_formula_cell state.book q && b) (reaches_at_all state.book (is_touched state.touched) q (Reaches.itself (all q)))
+    ap (λ b. is_formula_cell state.book q && b) (reaches_at_all state.book (is_touched state.book state.touched) q (Reaches.itself (or_first (lies_in state.touched q) _ (all q))))
     ∙ and_true (is_formula_cell state.book q)
 
 -- with none touched, none is
-pub none_stale : (state : State) → ((q : Place) → is_touched state.touched q ≡ false) → (q : Place) → stale_of state q ≡ false
+pub none_stale : (state : State) → ((q : Place) → lies_in state.touched q ≡ false) → state.touched.names ≡ [] → (q : Place) → stale_of state q ≡ false
 unfolding stale_of
-none_stale state none q =
-    ap (λ b. is_formula_cell state.book q && b) (reaches_none state.book (is_touched state.touched) none q)
+none_stale state none unnamed q =
+    ap (λ b. is_formula_cell state.book q && b) (reaches_none state.book (is_touched state.book state.touched) (λ p. ap (λ b. b || uses_any state.touched.names (content_at state.book p)) (none p) ∙ ap (λ names. uses_any names (content_at state.book p)) unnamed ∙ uses_none (content_at state.book p)) q)
     ∙ and_false (is_formula_cell state.book q)
 
 -- tests that agree count alike
@@ -156,6 +169,6 @@ filter_same f g same [] = refl
 filter_same f g same (x ∷ xs) = ap (λ b. cond b (x ∷ filter f xs) (filter f xs)) (same x) ∙ ap (λ rest. cond (g x) (x ∷ rest) rest) (filter_same f g same xs)
 
 -- how many cells are found, where exactly the stale ones are
-pub found_stale : (state : State) (found : List Place) → ((q : Place) → contains_cell found q ≡ (is_formula_cell state.book q && reaches state.book (is_touched state.touched) q)) → count_in state.book (contains_cell found) ≡ count_in state.book (stale_of state)
+pub found_stale : (state : State) (found : List Place) → ((q : Place) → contains_cell found q ≡ (is_formula_cell state.book q && reaches state.book (is_touched state.book state.touched) q)) → count_in state.book (contains_cell found) ≡ count_in state.book (stale_of state)
 unfolding stale_of
 found_stale state found same = ap (λ (es : List (Place × Content)). length es) (filter_same (λ entry. contains_cell found entry.0) (λ entry. stale_of state entry.0) (λ entry. same entry.0) state.book.cells)

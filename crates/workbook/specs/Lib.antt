@@ -1,5 +1,4 @@
-pub mod BuiltStep
 pub mod Touched
 pub mod Reach
-pub mod Rows
+pub mod Readers
 pub mod Workbook

@@ -13,14 +13,15 @@ use Rattle.workbook.specs.Touched.{contains_cell}
 abbrev pub marked : CellSet → List Place → CellSet
 marked touched found q = touched q || contains_cell found q
 
--- each found cell holds a formula and reaches a touched cell
-pub record IsFound (book : Book) (touched : CellSet) (found : List Place) : Type 0 where
+-- Each found cell holds a formula and reaches a touched cell, and those of a set of touched formulas are found.
+pub record IsFound (book : Book) (touched users : CellSet) (found : List Place) : Type 0 where
   pub formula : (q : Place) → contains_cell found q ≡ true → is_formula_cell book q ≡ true
-  pub reached : (q : Place) → contains_cell found q ≡ true → Reaches book touched q
+  pub reached : (q : Place) → contains_cell found q ≡ true → Reaches book (λ p. touched p || users p) q
+  pub used : (q : Place) → users q ≡ true → contains_cell found q ≡ true
 
 -- more of the formulas are found, rightly where the others were
 abbrev pub KeepsFound : CellSet → List (Place × List Rectangle) → List Place → List Place → Type 0
-KeepsFound touched readers old new = (book : Book) → AreReaders book readers → IsFound book touched old → IsFound book touched new
+KeepsFound touched readers old new = (book : Book) (users : CellSet) → AreReaders book readers → IsFound book touched users old → IsFound book touched users new
 
 -- the formula is touched or reads a marked cell
 abbrev pub is_due : CellSet → List Place → Place × List Rectangle → Bool

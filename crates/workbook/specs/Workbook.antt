@@ -1,39 +1,54 @@
--- A workbook: its book, the cells that edits touched since the last recalculation, and whether it is dead. A formula
--- that reaches a touched cell is stale.
-use Rattle.std.specs.Prelude.{◌≡◌, ◌&&◌, Bool, true, Ok, Err}
+-- A workbook: its book, the results of the last recalculation, the cells that edits touched since then, and whether it
+-- is dead. A formula that reaches a touched cell is stale.
+use Rattle.std.specs.Prelude.{◌≡◌, ◌&&◌, nat_le, Bool, true, List, Ok, Err}
 use Rattle.calc_addr.specs.Places.{Place}
+use Rattle.calc_model.specs.declared.value.Value.{Value}
+use Rattle.calc_model.specs.declared.limits.TheConstants.{MOST_GENERATED_ROWS}
 use Rattle.calc_model.specs.declared.edit.Edit.{Edit}
-use Rattle.calc_model.specs.declared.edit.Edit.TheVariants.{Set, Clear}
+use Rattle.calc_model.specs.declared.edit.Edit.TheVariants.{Set, Clear, Make}
 use Rattle.calc_model.specs.declared.edit.EditCause.{EditCause}
 use Rattle.calc_model.specs.Books.{Book, IsBook}
+use Rattle.calc_model.specs.Results.{shown_by}
+use Rattle.calc_model.specs.Scalars.{CellValues}
+use Rattle.calc_model.specs.Step.{step}
 use Rattle.calc_model.specs.Stale.{is_formula_cell, reaches, stale_after}
-use Rattle.workbook.specs.BuiltStep.{built_step}
 use Rattle.calc_model.specs.Touched.{CellSet}
+use Rattle.cell_map.specs.ResultMap.{results_of}
 use Rattle.workbook.specs.Touched.{Parts, is_touched}
 
 pub record State : Type 0 where
   pub book : Book
+  pub results : List (Place × Value)
   pub touched : Parts
   pub dead : Bool
 
 -- the formulas that are stale
 unfoldable pub stale_of : State → CellSet
-stale_of state q = is_formula_cell state.book q && reaches state.book (is_touched state.touched) q
+stale_of state q = is_formula_cell state.book q && reaches state.book (is_touched state.book state.touched) q
+
+-- what cells show by the results
+unfoldable pub values_of : State → CellValues
+values_of state = shown_by state.book (results_of state.results)
 
 -- the formulas that are stale after an edit, by those before it
 abbrev pub Stales : State → Edit → State → Type 0
 Stales before edit after = (q : Place) → stale_of after q ≡ stale_after before.book edit after.book (stale_of before) q
 
+-- The generated book has no more rows than a line may ask for.
+abbrev pub is_makeable : Edit → Bool
+is_makeable (Make start rows) = nat_le rows MOST_GENERATED_ROWS
+is_makeable _ = true
+
 -- the edit was made
 pub record Made (before : State) (edit : Edit) (after : State) : Type 0 where
-  pub step : built_step before.book edit ≡ Ok after.book
+  pub step : step before.book edit ≡ Ok after.book
   pub book : IsBook after.book
   pub stale : Stales before edit after
   pub alive : after.dead ≡ before.dead
 
 -- the edit is refused, and the workbook is as before
 pub record IsRefused (before : State) (edit : Edit) (cause : EditCause) (after : State) : Type 0 where
-  pub step : built_step before.book edit ≡ Err cause
+  pub step : step before.book edit ≡ Err cause
   pub kept : after ≡ before
 
 -- memory was refused: the workbook is as before where a cell was to be set or an area cleared, and else it is dead

@@ -4,10 +4,13 @@
 
 mod copies;
 mod fault;
+mod name_edits;
+mod names;
 mod reach;
 mod row_edits;
 mod touched;
+mod users;
 mod workbook;
 
 pub use fault::EditFault;
-pub use workbook::Workbook;
+pub use workbook::{Recalculated, Workbook};

@@ -7,8 +7,8 @@ ghost use Rattle.calc_model.specs.Changes.{IsChange};
 ghost use Rattle.calc_model.specs.RowEdits.{are_rows, has_rows_of, is_pushed_out};
 ghost use Rattle.calc_model.specs.Touched.{rows_from};
 ghost use Rattle.calc_model.specs.declared.edit.EditCause.{EditCause};
-ghost use Rattle.workbook.specs.Rows.{changes_area, is_reader_of};
-ghost use Rattle.workbook.specs.Touched.{is_touched};
+ghost use Rattle.workbook.specs.Readers.{changes_area, is_reader_of};
+ghost use Rattle.workbook.specs.Touched.{lies_in};
 ghost use Rattle.workbook.specs.Workbook.{IsRefused, Made};
 
 use crate::fault::EditFault;
@@ -119,9 +119,11 @@ impl Workbook {
         requires to { place ≤ LAST_ROW }
         requires change { IsChange change }
         ensures book { self.new.book ≡ self.old.book }
+        ensures results { self.new.results ≡ self.old.results }
         ensures alive { self.new.dead ≡ self.old.dead }
-        ensures touched { OnOk result ((q : Place) → is_touched self.new.touched q
-            ≡ (is_touched self.old.touched q || (covers (rows_from sheet place) q
+        ensures names { self.new.touched.names ≡ self.old.touched.names }
+        ensures touched { OnOk result ((q : Place) → lies_in self.new.touched q
+            ≡ (lies_in self.old.touched q || (covers (rows_from sheet place) q
             || list_any (changes_area change) (reads self.old.book q)))) }
     {
         let readers = readers(alloc, &self.cells)?;
@@ -140,8 +142,9 @@ impl Workbook {
 /// Touches the readers of areas that change.
 fn touch_readers(touched: &mut Touched, readers: &[Reader], change: Change) -> Result<(), NoMemory>
     requires { IsChange change }
-    ensures { OnOk result ((q : Place) → is_touched touched.new q
-        ≡ (is_touched touched.old q || list_any (is_reader_of (changes_area change) q) readers.now)) }
+    ensures cells { OnOk result ((q : Place) → lies_in touched.new q
+        ≡ (lies_in touched.old q || list_any (is_reader_of (changes_area change) q) readers.now)) }
+    ensures names { touched.new.names ≡ touched.old.names }
 {
     for reader in readers {
         touch_reader(touched, reader, change)?;
@@ -152,8 +155,9 @@ fn touch_readers(touched: &mut Touched, readers: &[Reader], change: Change) -> R
 /// Touches the formula where it reads an area that changes.
 fn touch_reader(touched: &mut Touched, reader: &Reader, change: Change) -> Result<(), NoMemory>
     requires { IsChange change }
-    ensures { OnOk result ((q : Place) → is_touched touched.new q
-        ≡ (is_touched touched.old q || is_reader_of (changes_area change) q reader.now)) }
+    ensures cells { OnOk result ((q : Place) → lies_in touched.new q
+        ≡ (lies_in touched.old q || is_reader_of (changes_area change) q reader.now)) }
+    ensures names { touched.new.names ≡ touched.old.names }
 {
     if is_any_changed(reader.areas(), change) {
         touched.add_cell(reader.cell())?;

@@ -1,25 +1,30 @@
 //! The cells that edits touched since the last recalculation.
-ghost use Rattle.std.specs.Prelude.{◌≡◌, ◌||◌, true, false, not, IfOk, IfSome, OnOk, OnErr};
+ghost use Rattle.std.specs.Prelude.{ℕ, ◌≡◌, ◌||◌, [], List, true, false, not, IfOk, IfSome, OnOk, OnErr};
 ghost use Rattle.std.specs.BTreeMap.{is_at};
 ghost use Rattle.std.specs.BTreeSet.{insert_key};
 ghost use Rattle.std.specs.Set.{remove_key};
 ghost use Rattle.std.specs.List.{list_any};
 ghost use Rattle.std.specs.Ordering.{eq_by_cmp};
 ghost use Rattle.calc_addr.specs.Places.{Place, covers, place_cmp, places};
-ghost use Rattle.workbook.specs.Touched.{contains_cell, is_touched};
+ghost use Rattle.calc_model.specs.UsedNames.{is_same_name};
+ghost use Rattle.workbook.specs.Touched.{contains_cell, has_name, lies_in};
 
+use crate::names::NameSet;
 use calc_addr::{Area, Cell, NoMemory};
+use calc_model::Text;
 use std::alloc::Global;
 use std::collections::BTreeSet;
 use std::marker::Model;
 
-/// Some cells of all sheets. Contracts see its parts; `is_touched` says which cells it has.
+/// Some cells of all sheets: every one, or single cells, the cells of areas, and those whose formulas use
+/// some names. Contracts see its parts; `lies_in` says which cells it has by another way than by a name.
 #[derive(Drop)]
 pub(crate) struct Touched {
     /// It has every cell.
     all: bool,
     cells: BTreeSet<Cell>,
     areas: Vec<Area>,
+    names: NameSet,
 }
 
 impl Model for Touched {
@@ -27,37 +32,46 @@ impl Model for Touched {
 
     ghost Value = { Parts };
 
-    ghost view = { λ t. record { all = t.all; cells = t.cells.keys; areas = t.areas.items } };
+    ghost view = { λ t. record {
+      all = t.all;
+      cells = t.cells.keys;
+      areas = t.areas.items;
+      names = t.names;
+    } };
 }
 
-#[tactic(auto, unfolding(crate::specs::Touched::is_touched), using(crate::proofs::Sets::more))]
+#[tactic(auto, unfolding(crate::specs::Touched::lies_in), using(crate::proofs::Sets::more))]
 impl Touched {
     /// Every cell.
     pub(crate) fn all(alloc: Global) -> Touched
-        ensures { (q : Place) → is_touched result q ≡ true }
+        ensures cells { (q : Place) → lies_in result q ≡ true }
+        ensures names { result.names ≡ [] }
     {
         Touched {
             all: true,
             cells: BTreeSet::new(alloc),
             areas: Vec::new(alloc),
+            names: NameSet::new(alloc),
         }
     }
 
     /// No cell.
     pub(crate) fn none(alloc: Global) -> Touched
-        ensures { (q : Place) → is_touched result q ≡ false }
+        ensures cells { (q : Place) → lies_in result q ≡ false }
+        ensures names { result.names ≡ [] }
     {
         Touched {
             all: false,
             cells: BTreeSet::new(alloc),
             areas: Vec::new(alloc),
+            names: NameSet::new(alloc),
         }
     }
 
     /// Adds the cell, and answers whether it wasn't among the single cells.
     pub(crate) fn add_cell(&mut self, cell: Cell) -> Result<bool, NoMemory>
         ensures touched { OnOk result ((q : Place) →
-            is_touched self.new q ≡ (is_touched self.old q || eq_by_cmp place_cmp cell q)) }
+            lies_in self.new q ≡ (lies_in self.old q || eq_by_cmp place_cmp cell q)) }
         ensures parts { OnOk result
             (self.new ≡ record self.old { cells = insert_key place_cmp self.old.cells cell }) }
         ensures added { IfOk result (λ added. added ≡ not (contains_cell self.old.cells cell)) }
@@ -79,7 +93,8 @@ impl Touched {
     /// Adds the cells of the area: a single cell among these, and else the area.
     pub(crate) fn add_area(&mut self, area: Area) -> Result<(), NoMemory>
         ensures touched { OnOk result ((q : Place) →
-            is_touched self.new q ≡ (is_touched self.old q || covers area q)) }
+            lies_in self.new q ≡ (lies_in self.old q || covers area q)) }
+        ensures names { self.new.names ≡ self.old.names }
         ensures err { OnErr result (self.new ≡ self.old) }
     {
         match only_cell(area) {
@@ -91,17 +106,33 @@ impl Touched {
         Ok(())
     }
 
-    /// Whether it has the cell. Linear in its areas.
+    /// Adds the cells whose formulas use the name.
+    pub(crate) fn add_name(&mut self, alloc: Global, name: &Text) -> Result<(), NoMemory>
+        ensures cells { (q : Place) → lies_in self.new q ≡ lies_in self.old q }
+        ensures names { OnOk result ((other : List ℕ) → has_name self.new.names other
+            ≡ (has_name self.old.names other || is_same_name name.now other)) }
+    {
+        self.names.insert(alloc, name)
+    }
+
+    /// The names whose users it has.
+    pub(crate) fn names(&self) -> &NameSet
+        ensures { result.now ≡ self.now.names }
+    {
+        &self.names
+    }
+
+    /// Whether it has the cell by another way than by a name. Linear in its areas.
     pub(crate) fn has(&self, cell: Cell) -> bool
-        ensures { result ≡ is_touched self.now cell }
+        ensures { result ≡ lies_in self.now cell }
     {
         self.all || self.cells.contains(&cell) || is_covered(&self.areas, cell)
     }
 
-    /// Whether it has a cell of the area. Linear in its areas, and in the lesser of its single cells and
+    /// Whether it has a cell of the area by another way than by a name. Linear in its areas, and in the lesser of its single cells and
     /// the area's cells.
     pub(crate) fn has_cell_in(&self, area: Area) -> bool
-        ensures { result ≡ list_any (is_touched self.now) (places area) }
+        ensures { result ≡ list_any (lies_in self.now) (places area) }
     {
         // Where it has every cell, it has the first one.
         if self.has(area.corner()) {

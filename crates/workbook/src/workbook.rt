@@ -1,33 +1,44 @@
 //! A workbook as a plain map of cells.
-ghost use Rattle.std.specs.Prelude.{◌≡◌, ◌≤◌, ◌↔◌, [], length, IfOk, IsErrOf, OnOk, OnErr, false, true};
+ghost use Rattle.std.specs.Prelude.{◌≡◌, ◌≤◌, ◌↔◌, ◌++◌, [], length, IfOk, IsErrOf, OnOk, OnErr, false, true};
 ghost use Rattle.calc_addr.specs.Places.{Place};
-ghost use Rattle.calc_model.specs.Books.{formula_count, with_content};
-ghost use Rattle.calc_model.specs.Results.{ShowsAll};
+ghost use Rattle.calc_model.specs.Books.{content_at, formula_count, with_content};
 ghost use Rattle.calc_model.specs.Stale.{count_in, is_formula_cell};
-ghost use Rattle.workbook.specs.BuiltStep.{built_step};
-ghost use Rattle.cell_map.specs.ResultMap.{results_of};
+ghost use Rattle.calc_model.specs.Printed.{printed_content};
+ghost use Rattle.calc_model.specs.Val.{val};
+ghost use Rattle.calc_model.specs.ValueTexts.{lent};
+ghost use Rattle.cell_map.specs.ShownCells.{shown_values};
 ghost use Rattle.calc_model.specs.declared.edit.EditCause.{EditCause};
 ghost use Rattle.workbook.specs.Touched.{contains_cell};
-ghost use Rattle.workbook.specs.Workbook.{AfterNoMemory, IsRefused, Made, stale_of};
+ghost use Rattle.workbook.specs.Workbook.{AfterNoMemory, IsRefused, Made, is_makeable, stale_of, values_of};
 
 use crate::fault::EditFault;
 use crate::reach::reached;
 use crate::touched::Touched;
 use calc_addr::{Area, Cell, NoMemory};
-use calc_model::{Content, Edit, EditCause, MOST_CELLS};
-use cell_map::{CellMap, ResultMap};
+use calc_model::{Content, Edit, EditCause, MOST_CELLS, Seen};
+use cell_map::{CellMap, ResultMap, ShownCells, shown};
+use formula_printer::print_content;
 use plain_evaluator::evaluate;
 use std::alloc::Global;
 use std::collections::BTreeSet;
 use std::marker::Model;
 
-/// A book as a plain map of its cells, what edits touched since the last recalculation, and whether it is
-/// dead. Contracts see all three; `stale_of` says which formulas are stale.
+/// A book as a plain map of its cells and its names, the results of the last recalculation, what edits
+/// touched since then, and whether it is dead. Contracts see all four; `stale_of` says which formulas are
+/// stale, and `values_of` what cells show by the results.
 #[derive(Drop)]
 pub struct Workbook {
     pub(crate) cells: CellMap,
+    results: ResultMap,
     pub(crate) touched: Touched,
     dead: bool,
+}
+
+/// What a recalculation did.
+#[derive(Clone, Copy, Debug, PartialEq, Eq)]
+pub struct Recalculated {
+    /// How many formulas were stale.
+    pub stale: usize,
 }
 
 impl Model for Workbook {
@@ -41,7 +52,12 @@ impl Model for Workbook {
 
     ghost coded = { Prim.hlevel (codes, coded_tree.the_row.coded) };
 
-    ghost view = { λ w. record { book = w.cells; touched = w.touched; dead = w.dead } };
+    ghost view = { λ w. record {
+      book = w.cells;
+      results = w.results;
+      touched = w.touched;
+      dead = w.dead;
+    } };
 }
 
 impl Workbook {
@@ -54,6 +70,7 @@ impl Workbook {
     {
         Workbook {
             cells: CellMap::new(alloc),
+            results: ResultMap::new(alloc),
             touched: Touched::none(alloc),
             dead: false,
         }
@@ -67,16 +84,10 @@ impl Workbook {
     {
         Workbook {
             cells,
+            results: ResultMap::new(alloc),
             touched: Touched::all(alloc),
             dead: false,
         }
-    }
-
-    /// What each cell that isn't empty holds.
-    pub fn cells(&self) -> &CellMap
-        ensures { result.now ≡ self.now.book }
-    {
-        &self.cells
     }
 
     /// Whether memory was refused in the midst of an edit. A dead workbook takes no edit.
@@ -103,8 +114,10 @@ impl Workbook {
     /// Makes an edit. To set a cell takes the logarithm of the cells, and to clear an area that for each of
     /// its columns and each cell that it empties. To copy an area takes the logarithm for each column and
     /// each cell, and to fill one that for each cell. Row edits take it for each cell of the book, and are
-    /// linear in what formulas read. Edits of names and `Make` are still refused.
+    /// linear in what formulas read. Edits of names take the logarithm of the names, and move those behind a
+    /// new one. The generated book takes the logarithm of its cells for each of them.
     pub fn edit(&mut self, alloc: Global, edit: &Edit) -> Result<(), EditFault>
+        requires { is_makeable edit.now ≡ true }
         ensures done { OnOk result (Made self.old edit.now self.new) }
         ensures refused { (cause : EditCause) → IsErrOf result (EditFault.Refused cause) →
             IsRefused self.old edit.now cause self.new }
@@ -131,7 +144,9 @@ impl Workbook {
                 place,
                 count,
             } => self.delete_rows(alloc, *sheet, *place, *count),
-            _ => Err(EditFault::Refused(EditCause::NotBuilt)),
+            Edit::Name { name, area } => self.define_name(alloc, name, *area),
+            Edit::Unname { name } => self.remove_name(alloc, name),
+            Edit::Make { start, rows } => self.generate(alloc, *start, *rows),
         }
     }
 
@@ -204,18 +219,51 @@ impl Workbook {
         Ok(count_found(&self.cells, &found))
     }
 
-    /// The results of all formulas, evaluated from scratch. None is stale afterwards. Where memory is
-    /// refused, the workbook is as before.
-    pub fn recalculate(&mut self, alloc: Global) -> Result<ResultMap, NoMemory>
-        ensures shows { IfOk result (λ results. ShowsAll self.new.book (results_of results)) }
-        ensures book { self.new.book ≡ self.old.book }
+    /// Evaluates all formulas from scratch. None is stale afterwards, and every cell has its value. Where
+    /// memory is refused, the workbook is as before.
+    #[tactic(auto, unfolding(crate::specs::Workbook::values_of))]
+    pub fn recalculate(&mut self, alloc: Global) -> Result<Recalculated, NoMemory>
+        ensures count { IfOk result (λ done.
+            done.stale ≡ count_in self.old.book (stale_of self.old)) }
+        ensures values { OnOk result ((q : Place) → values_of self.new q ≡ val self.new.book q) }
         ensures stale { OnOk result ((q : Place) → stale_of self.new q ≡ false) }
+        ensures book { self.new.book ≡ self.old.book }
         ensures alive { self.new.dead ≡ self.old.dead }
         ensures kept { OnErr result (self.new ≡ self.old) }
     {
-        let results = evaluate(alloc, &self.cells)?;
+        let stale = self.stale_count(alloc)?;
+        self.results = evaluate(alloc, &self.cells)?;
         self.touched = Touched::none(alloc);
-        Ok(results)
+        Ok(Recalculated { stale })
+    }
+
+    /// What the cell shows. It takes the logarithm of the cells.
+    #[tactic(auto, unfolding(crate::specs::Workbook::values_of))]
+    pub fn value(&self, cell: Cell) -> Seen<'_>
+        ensures { lent result ≡ values_of self.now cell }
+    {
+        shown(&self.cells, &self.results, cell)
+    }
+
+    /// What all cells show.
+    #[tactic(auto, unfolding(crate::specs::Workbook::values_of))]
+    pub fn values(&self) -> ShownCells<'_>
+        ensures { shown_values result ≡ values_of self.now }
+    {
+        ShownCells::of(&self.cells, &self.results)
+    }
+
+    /// Appends the printed content of a cell. It takes the logarithm of the cells, and is linear in what is
+    /// printed. Where memory is refused, `out` is as before.
+    pub fn formula(&self, cell: Cell, out: &mut Vec<u8>) -> Result<(), NoMemory>
+        ensures ok { OnOk result (out.new.items
+            ≡ out.old.items ++ printed_content (content_at self.now.book cell)) }
+        ensures err { OnErr result (out.new.items ≡ out.old.items) }
+    {
+        match self.cells.get(cell) {
+            Some(content) => print_content(content, out),
+            None => Ok(()),
+        }
     }
 }
 

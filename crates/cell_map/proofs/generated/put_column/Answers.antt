@@ -1,10 +1,9 @@
 use Rattle.std.proofs.Common.{◌≡◌, ◌<◌, ◌+◌, ap, sym, ◌∙◌, arith}
 use Rattle.std.specs.BTreeMap.{insert_entry}
 use Rattle.calc_addr.specs.Places.{Place, place_cmp}
-use Rattle.calc_model.specs.declared.content.Content.{Content}
 use Rattle.calc_model.specs.CellEdits.{CellEntries, with_entries}
 use Rattle.cell_map.specs.GeneratedColumns.{content_of, entries_of, place_of}
-use Rattle.cell_map.proofs.ColumnEntries.{first_entry, no_entry}
+use Rattle.cell_map.proofs.ColumnEntries.{first_entry}
 use Rattle.cell_map.proofs.generated.put_column.Goals as goal
 
 pub loop-row-preserved : goal.loop-row-preserved

@@ -2,7 +2,7 @@ use Rattle.std.proofs.Common.{◌≡◌, true, false, sym, subst, ◌∙◌, ari
 use Rattle.std.specs.List.{list_all}
 use Rattle.plain_evaluator.specs.Plain.{IsReader}
 use Rattle.plain_evaluator.proofs.Formulas.{all_dropped, next_passes}
-use Rattle.workbook.specs.Touched.{is_touched}
+use Rattle.workbook.specs.Touched.{lies_in}
 use Rattle.workbook.specs.Reach.{KeepsFound, is_settled}
 use Rattle.workbook.proofs.Reaching.{found_with, more_found}
 use Rattle.workbook.proofs.reach.sweep.Goals as goal
@@ -11,7 +11,7 @@ use Rattle.workbook.proofs.reach.sweep.Goals.{then-branch, else-branch}
 pub loop-reader-preserved : goal.loop-reader-preserved
 loop-reader-preserved c =
     let inv = c.loop-reader.invariant in
-    let touched = is_touched c.args.touched.now in
+    let touched = lies_in c.args.touched.now in
     let first = c.args.found.now.keys in
     let old = c.loop-reader.found.keys in
     let readers = c.args.readers.now in
@@ -22,9 +22,9 @@ loop-reader-preserved c =
           let adds = c.in_ok-mark.ensures.added w.if-branch.true in
           let more = more_found touched old c.mark.new.found.keys reader adds readers k c.loop-reader-test.true c.reader-item.is in
           record {
-            found = λ book are is.
+            found = λ book users are is.
                 let each : IsReader book reader = subst (IsReader book) (sym c.reader-item.is) (are.each k reader c.loop-reader-test.true) in
-                found_with book touched old c.mark.new.found.keys reader each.areas each.formula adds (inv.found book are is);
+                found_with book touched users old c.mark.new.found.keys reader each.areas each.formula adds (inv.found book users are is);
             no_less = omega (arith, more, inv.no_less);
             more = λ _. omega (arith, more, inv.no_less);
             same = λ none. cc;
@@ -46,6 +46,6 @@ loop-reader-preserved c =
 
 pub returns-clause-settled : goal.returns-clause-settled
 returns-clause-settled c = λ none.
-    let touched = is_touched c.args.touched.now in
+    let touched = lies_in c.args.touched.now in
     subst (λ found. list_all (is_settled touched found) c.args.readers.now ≡ true) (sym (c.loop-reader.invariant.same none))
     (c.loop-reader.invariant.settled none (all_dropped (is_settled touched c.args.found.now.keys) c.args.readers.now c.loop-reader.reader-index c.loop-reader-test.false))

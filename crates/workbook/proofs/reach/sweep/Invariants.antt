@@ -1,13 +1,13 @@
 use Rattle.std.proofs.Common.{◌≡◌, ◌<◌, ◌≤◌, true, false, drop}
 use Rattle.std.specs.List.{list_all}
 use Rattle.workbook.specs.Reach.{KeepsFound, found_count, is_settled}
-use Rattle.workbook.specs.Touched.{is_touched}
+use Rattle.workbook.specs.Touched.{lies_in}
 use Rattle.workbook.proofs.reach.sweep.Given as goal
 
 -- each formula so far is settled, as long as none is added
 abbrev pub invariant-loop-reader : goal.invariant-loop-reader
 invariant-loop-reader l =
-    let touched = is_touched l.touched in
+    let touched = lies_in l.touched in
     let first = l.initial.found.keys in
     let settled = list_all (is_settled touched first) in
     record {

@@ -1,5 +1,5 @@
 use Rattle.std.proofs.Common.{◌≡◌, [], subst, sym, ◌∙◌, ap}
-use Rattle.calc_model.specs.Books.{Book, IsBook}
+use Rattle.calc_model.specs.Books.{IsBook}
 use Rattle.calc_model.specs.CellEdits.{CellEntries}
 use Rattle.calc_model.specs.GeneratedBook.{generated_book}
 use Rattle.calc_model.proofs.BooksKept.{generated_is_book}

@@ -1,12 +1,12 @@
 use Rattle.std.proofs.Common.{◌||◌, sym, ap, ◌∙◌}
 use Rattle.std.specs.List.{list_any}
 use Rattle.calc_addr.specs.Places.{covers, places}
-use Rattle.workbook.specs.Touched.{is_touched}
+use Rattle.workbook.specs.Touched.{lies_in}
 use Rattle.workbook.proofs.Sets.{any_place, touched_beside}
 use Rattle.workbook.proofs.touched.Touched.has_cell_in.Goals as goal
 
 pub returns-then-has : goal.returns-then-has
-returns-then-has c = sym (any_place (is_touched c.args.self.now) c.args.area c.corner.result c.corner.ensures.in_area (sym c.if-has.ensures))
+returns-then-has c = sym (any_place (lies_in c.args.self.now) c.args.area c.corner.result c.corner.ensures.in_area (sym c.if-has.ensures))
 
 pub returns-then-has_cell_in : goal.returns-then-has_cell_in
 returns-then-has_cell_in c =

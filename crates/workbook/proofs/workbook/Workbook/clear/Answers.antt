@@ -9,11 +9,11 @@ use Rattle.workbook.proofs.workbook.Workbook.clear.Goals as goal
 
 pub returns-in-Ok-clause-done : goal.returns-in-Ok-clause-done
 returns-in-Ok-clause-done c =
-    let before : State = record { book = c.self.inside.cells; touched = c.self.inside.touched; dead = c.self.inside.dead } in
-    let after : State = record { book = c.clear.new.self; touched = c.add_area.new.self; dead = c.self.inside.dead } in
+    let before : State = record { book = c.self.inside.cells; results = c.self.inside.results; touched = c.self.inside.touched; dead = c.self.inside.dead } in
+    let after : State = record { book = c.clear.new.self; results = c.self.inside.results; touched = c.add_area.new.self; dead = c.self.inside.dead } in
     subst (λ state. Made state (Clear c.args.area) after) c.self.view_is (record {
       step = clear_step before.book after.book c.args.area c.clear.ensures.cells c.clear.ensures.names;
       book = c.clear.ensures.book;
-      stale = stale_more before after (covers c.args.area) c.clear.ensures.names (clear_leaves before.book after.book c.args.area c.clear.ensures.cells) c.in-Ok.ensures.touched;
+      stale = stale_more before after (covers c.args.area) c.clear.ensures.names (clear_leaves before.book after.book c.args.area c.clear.ensures.cells) c.add_area.ensures.names c.in-Ok.ensures.touched;
       alive = refl;
     })

@@ -1,13 +1,12 @@
 use Rattle.std.proofs.Common.{◌≡◌, ◌||◌, ap, subst, sym, ◌∙◌}
-use Rattle.std.proofs.lemmas.Result.{on_ok_weaker}
 use Rattle.calc_addr.specs.Places.{Place, covers}
 use Rattle.calc_model.specs.Books.{Book, IsBook}
 use Rattle.calc_model.specs.NamedAreas.{names_after_deletion}
 use Rattle.calc_model.specs.RowEdits.{cells_after_deletion, is_changed_by_deletion}
 use Rattle.calc_model.specs.Touched.{reads_any, rows_from}
-use Rattle.workbook.specs.Touched.{Parts, is_touched}
+use Rattle.workbook.specs.Touched.{Parts, lies_in}
 use Rattle.workbook.specs.Workbook.{State}
-use Rattle.workbook.proofs.RowChanges.{deletion_stale}
+use Rattle.workbook.proofs.RowChanges.{deletion_stale, on_ok_both}
 use Rattle.workbook.proofs.Steps.{delete_step}
 use Rattle.workbook.proofs.workbook.Workbook.make_deletion.Goals as goal
 
@@ -17,20 +16,19 @@ returns c =
     let place = c.args.place in
     let count = c.args.count in
     let before : State = c.args.self.now in
-    let after : State = record { book = c.delete_rows.new.self; touched = c.self.inside.touched; dead = c.self.inside.dead } in
+    let after : State = record { book = c.delete_rows.new.self; results = c.self.inside.results; touched = c.self.inside.touched; dead = c.self.inside.dead } in
     let book : c.self.inside.cells ≡ before.book = ap (λ (state : State). state.book) c.self.view_is ∙ c.in_ok-touch_rows.ensures.book in
     let was : IsBook before.book = subst IsBook book c.delete_rows.ensures.was_book in
-    let unnamed : after.book.names ≡ before.book.names = c.delete_rows.ensures.names ∙ ap (λ (b : Book). b.names) book in
-    let named : after.book.names ≡ names_after_deletion sheet place count before.book.names =
-    c.delete_rows.ensures.names ∙ sym c.delete_rows.ensures.areas ∙ ap (λ (b : Book). names_after_deletion sheet place count b.names) book in
-    let joined = subst (λ (parts : Parts). (q : Place) → is_touched parts q ≡ (is_touched before.touched q || (covers (rows_from sheet place) q || reads_any before.book (is_changed_by_deletion sheet place count) q))) (sym (ap (λ (state : State). state.touched) c.self.view_is)) c.in_ok-touch_rows.ensures.touched in
-    on_ok_weaker c.delete_rows.result
-    (λ made.
+    let touched : after.touched.names ≡ before.touched.names = ap (λ (state : State). state.touched.names) c.self.view_is ∙ c.in_ok-touch_rows.ensures.names in
+    let joined = subst (λ (parts : Parts). (q : Place) → lies_in parts q ≡ (lies_in before.touched q || (covers (rows_from sheet place) q || reads_any before.book (is_changed_by_deletion sheet place count) q))) (sym (ap (λ (state : State). state.touched) c.self.view_is)) c.in_ok-touch_rows.ensures.touched in
+    on_ok_both c.delete_rows.result
+    (λ made names_made.
+    let named : after.book.names ≡ names_after_deletion sheet place count before.book.names = names_made ∙ ap (λ (b : Book). names_after_deletion sheet place count b.names) book in
     let cells : after.book.cells ≡ cells_after_deletion sheet place count before.book.cells = made ∙ ap (λ (b : Book). cells_after_deletion sheet place count b.cells) book in
     record {
       step = delete_step before.book sheet place count after.book c.requires.rows cells named;
       book = c.delete_rows.ensures.book;
-      stale = deletion_stale before after sheet place count was c.delete_rows.ensures.book unnamed cells joined;
+      stale = deletion_stale before after sheet place count was c.delete_rows.ensures.book touched cells named joined;
       alive = ap (λ (state : State). state.dead) c.self.view_is ∙ c.in_ok-touch_rows.ensures.alive;
     })
-    c.delete_rows.ensures.cells
+    c.delete_rows.ensures.cells c.delete_rows.ensures.names

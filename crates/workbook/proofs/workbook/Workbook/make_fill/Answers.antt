@@ -14,14 +14,14 @@ pub returns : goal.returns
 returns c =
     let from = c.args.from in
     let area = c.args.area in
-    let before : State = record { book = c.self.inside.cells; touched = c.self.inside.touched; dead = c.self.inside.dead } in
-    let after : State = record { book = c.fill.new.self; touched = c.add_area.new.self; dead = c.self.inside.dead } in
+    let before : State = record { book = c.self.inside.cells; results = c.self.inside.results; touched = c.self.inside.touched; dead = c.self.inside.dead } in
+    let after : State = record { book = c.fill.new.self; results = c.self.inside.results; touched = c.add_area.new.self; dead = c.self.inside.dead } in
     let room : length (filled before.book from area) ≤ MOST_CELLS = subst (λ (state : State). length (filled state.book from area) ≤ MOST_CELLS) (sym c.self.view_is) c.requires.room in
     on_ok_weaker c.fill.result
     (λ cells. subst (λ state. Made state (Fill from area) after) c.self.view_is (record {
       step = fill_step before.book from area after.book c.requires.sheet cells c.fill.ensures.names room;
       book = c.fill.ensures.book;
-      stale = stale_more before after (covers area) c.fill.ensures.names (fill_leaves before.book after.book from (content_at before.book from) area cells) c.in_ok-add_area.ensures.touched;
+      stale = stale_more before after (covers area) c.fill.ensures.names (fill_leaves before.book after.book from (content_at before.book from) area cells) c.add_area.ensures.names c.in_ok-add_area.ensures.touched;
       alive = refl;
     }))
     c.fill.ensures.cells

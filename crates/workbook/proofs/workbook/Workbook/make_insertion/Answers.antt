@@ -1,13 +1,12 @@
 use Rattle.std.proofs.Common.{◌≡◌, ◌||◌, false, ap, subst, sym, ◌∙◌}
-use Rattle.std.proofs.lemmas.Result.{on_ok_weaker}
 use Rattle.calc_addr.specs.Places.{Place, covers}
 use Rattle.calc_model.specs.Books.{Book, IsBook}
 use Rattle.calc_model.specs.NamedAreas.{names_after_insertion}
 use Rattle.calc_model.specs.RowEdits.{cells_after_insertion, is_changed_by_insertion, is_pushed_out}
 use Rattle.calc_model.specs.Touched.{reads_any, rows_from}
-use Rattle.workbook.specs.Touched.{Parts, is_touched}
+use Rattle.workbook.specs.Touched.{Parts, lies_in}
 use Rattle.workbook.specs.Workbook.{State}
-use Rattle.workbook.proofs.RowChanges.{insertion_stale}
+use Rattle.workbook.proofs.RowChanges.{insertion_stale, on_ok_both}
 use Rattle.workbook.proofs.Steps.{insert_step}
 use Rattle.workbook.proofs.workbook.Workbook.make_insertion.Goals as goal
 
@@ -17,21 +16,20 @@ returns c =
     let place = c.args.place in
     let count = c.args.count in
     let before : State = c.args.self.now in
-    let after : State = record { book = c.insert_rows.new.self; touched = c.self.inside.touched; dead = c.self.inside.dead } in
+    let after : State = record { book = c.insert_rows.new.self; results = c.self.inside.results; touched = c.self.inside.touched; dead = c.self.inside.dead } in
     let book : c.self.inside.cells ≡ before.book = ap (λ (state : State). state.book) c.self.view_is ∙ c.in_ok-touch_rows.ensures.book in
     let was : IsBook before.book = subst IsBook book c.insert_rows.ensures.was_book in
-    let unnamed : after.book.names ≡ before.book.names = c.insert_rows.ensures.names ∙ ap (λ (b : Book). b.names) book in
-    let named : after.book.names ≡ names_after_insertion sheet place count before.book.names =
-    c.insert_rows.ensures.names ∙ sym c.insert_rows.ensures.areas ∙ ap (λ (b : Book). names_after_insertion sheet place count b.names) book in
     let inside : is_pushed_out sheet place count before.book.cells ≡ false = c.requires.inside in
-    let joined = subst (λ (parts : Parts). (q : Place) → is_touched parts q ≡ (is_touched before.touched q || (covers (rows_from sheet place) q || reads_any before.book (is_changed_by_insertion sheet place count) q))) (sym (ap (λ (state : State). state.touched) c.self.view_is)) c.in_ok-touch_rows.ensures.touched in
-    on_ok_weaker c.insert_rows.result
-    (λ made.
+    let touched : after.touched.names ≡ before.touched.names = ap (λ (state : State). state.touched.names) c.self.view_is ∙ c.in_ok-touch_rows.ensures.names in
+    let joined = subst (λ (parts : Parts). (q : Place) → lies_in parts q ≡ (lies_in before.touched q || (covers (rows_from sheet place) q || reads_any before.book (is_changed_by_insertion sheet place count) q))) (sym (ap (λ (state : State). state.touched) c.self.view_is)) c.in_ok-touch_rows.ensures.touched in
+    on_ok_both c.insert_rows.result
+    (λ made names_made.
+    let named : after.book.names ≡ names_after_insertion sheet place count before.book.names = names_made ∙ ap (λ (b : Book). names_after_insertion sheet place count b.names) book in
     let cells : after.book.cells ≡ cells_after_insertion sheet place count before.book.cells = made ∙ ap (λ (b : Book). cells_after_insertion sheet place count b.cells) book in
     record {
       step = insert_step before.book sheet place count after.book c.requires.rows inside cells named;
       book = c.insert_rows.ensures.book;
-      stale = insertion_stale before after sheet place count was c.insert_rows.ensures.book unnamed cells joined;
+      stale = insertion_stale before after sheet place count was c.insert_rows.ensures.book touched cells named joined;
       alive = ap (λ (state : State). state.dead) c.self.view_is ∙ c.in_ok-touch_rows.ensures.alive;
     })
-    c.insert_rows.ensures.cells
+    c.insert_rows.ensures.cells c.insert_rows.ensures.names

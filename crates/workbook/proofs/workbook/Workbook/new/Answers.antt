@@ -2,4 +2,4 @@ use Rattle.workbook.proofs.Staleness.{none_stale}
 use Rattle.workbook.proofs.workbook.Workbook.new.Goals as goal
 
 pub returns-clause-stale : goal.returns-clause-stale
-returns-clause-stale c = none_stale _ c.none.ensures
+returns-clause-stale c = none_stale _ c.none.ensures.cells c.none.ensures.names

@@ -14,21 +14,21 @@ use Rattle.workbook.proofs.workbook.Workbook.put.Goals as goal
 
 pub returns-in-Ok-clause-done : goal.returns-in-Ok-clause-done
 returns-in-Ok-clause-done c =
-    let before : State = record { book = c.self.inside.cells; touched = c.self.inside.touched; dead = c.self.inside.dead } in
-    let after : State = record { book = c.set.new.self; touched = c.add_cell.new.self; dead = c.self.inside.dead } in
+    let before : State = record { book = c.self.inside.cells; results = c.self.inside.results; touched = c.self.inside.touched; dead = c.self.inside.dead } in
+    let after : State = record { book = c.set.new.self; results = c.self.inside.results; touched = c.add_cell.new.self; dead = c.self.inside.dead } in
     let cells = c.in-Ok.ensures.cells ∙ ap (with_content before.book.cells c.args.cell) c.in_ok-content.ensures in
     let room : length (with_content before.book.cells c.args.cell c.args.content.now) ≤ MOST_CELLS = subst (λ (state : State). length (with_content state.book.cells c.args.cell c.args.content.now) ≤ MOST_CELLS) (sym c.self.view_is) c.requires.room in
     subst (λ state. Made state (Set c.args.cell c.args.content.now) after) c.self.view_is (record {
       step = set_step before.book after.book c.args.cell c.args.content.now cells c.set.ensures.names room;
       book = c.set.ensures.book;
       stale = stale_more before after (eq_by_cmp place_cmp c.args.cell) c.set.ensures.names
-          (set_leaves before.book after.book c.args.cell c.args.content.now cells) c.in_ok-added.ensures.touched;
+          (set_leaves before.book after.book c.args.cell c.args.content.now cells) (ap (λ (parts : Parts). parts.names) c.in_ok-added.ensures.parts) c.in_ok-added.ensures.touched;
       alive = refl;
     })
 
 pub returns-then-added-clause-kept : goal.returns-then-added-clause-kept
 returns-then-added-clause-kept c =
     let back = taken_back c.self.inside.touched c.add_cell.new.self c.remove_cell.new.self c.args.cell c.in_ok-added.ensures.parts c.remove_cell.ensures (sym c.if-added.true ∙ c.in_ok-added.ensures.added) in
-    ap (λ (book : Book). record { book = book; touched = c.remove_cell.new.self; dead = c.self.inside.dead }) c.in-Err.ensures.kept
-    ∙ ap (λ (touched : Parts). record { book = c.self.inside.cells; touched = touched; dead = c.self.inside.dead }) back
+    ap (λ (book : Book). record { book = book; results = c.self.inside.results; touched = c.remove_cell.new.self; dead = c.self.inside.dead }) c.in-Err.ensures.kept
+    ∙ ap (λ (touched : Parts). record { book = c.self.inside.cells; results = c.self.inside.results; touched = touched; dead = c.self.inside.dead }) back
     ∙ c.self.view_is

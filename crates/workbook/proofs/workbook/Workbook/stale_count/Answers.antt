@@ -6,7 +6,7 @@ use Rattle.workbook.proofs.workbook.Workbook.stale_count.Goals as goal
 
 pub returns : goal.returns
 returns c =
-    let state : State = record { book = c.self.inside.cells; touched = c.self.inside.touched; dead = c.self.inside.dead } in
+    let state : State = record { book = c.self.inside.cells; results = c.self.inside.results; touched = c.self.inside.touched; dead = c.self.inside.dead } in
     c.count_found.ensures
     ∙ found_stale state c.in_ok-found.found.keys c.in_ok-found.ensures
     ∙ subst (λ (shown : State). count_in state.book (stale_of state) ≡ count_in shown.book (stale_of shown)) c.self.view_is refl

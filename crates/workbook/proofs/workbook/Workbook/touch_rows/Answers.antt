@@ -4,8 +4,8 @@ use Rattle.std.proofs.lemmas.Result.{on_ok_weaker}
 use Rattle.calc_addr.specs.Places.{Place, Rectangle, covers}
 use Rattle.calc_model.specs.Reads.{reads}
 use Rattle.calc_model.specs.Touched.{rows_from}
-use Rattle.workbook.specs.Rows.{changes_area, is_reader_of}
-use Rattle.workbook.specs.Touched.{is_touched}
+use Rattle.workbook.specs.Readers.{changes_area, is_reader_of}
+use Rattle.workbook.specs.Touched.{lies_in}
 use Rattle.workbook.specs.Workbook.{State}
 use Rattle.workbook.proofs.RowChanges.{readers_read}
 use Rattle.workbook.proofs.workbook.Workbook.touch_rows.Goals as goal
@@ -17,13 +17,13 @@ or_assoc false b c = refl
 pub returns-clause-touched : goal.returns-clause-touched
 returns-clause-touched c =
     let changes = changes_area c.args.change in
-    let before : State = record { book = c.self.inside.cells; touched = c.self.inside.touched; dead = c.self.inside.dead } in
+    let before : State = record { book = c.self.inside.cells; results = c.self.inside.results; touched = c.self.inside.touched; dead = c.self.inside.dead } in
     on_ok_weaker c.touch_readers.result
-    (λ touches. subst (λ (state : State). (q : Place) → is_touched c.touch_readers.new.touched q ≡ (is_touched state.touched q || (covers (rows_from c.args.sheet c.args.place) q || list_any changes (reads state.book q)))) c.self.view_is
+    (λ touches. subst (λ (state : State). (q : Place) → lies_in c.touch_readers.new.touched q ≡ (lies_in state.touched q || (covers (rows_from c.args.sheet c.args.place) q || list_any changes (reads state.book q)))) c.self.view_is
     (λ q.
     touches q
-    ∙ ap (λ (rs : List (Place × List Rectangle)). is_touched c.add_area.new.self q || list_any (is_reader_of changes q) rs) c.deref.ensures.value
+    ∙ ap (λ (rs : List (Place × List Rectangle)). lies_in c.add_area.new.self q || list_any (is_reader_of changes q) rs) c.deref.ensures.value
     ∙ ap (λ b. b || list_any (is_reader_of changes q) c.in_ok-readers.readers.items) (c.in_ok-add_area.ensures.touched q)
-    ∙ or_assoc (is_touched before.touched q) (covers (rows_from c.args.sheet c.args.place) q) (list_any (is_reader_of changes q) c.in_ok-readers.readers.items)
-    ∙ ap (λ b. is_touched before.touched q || (covers (rows_from c.args.sheet c.args.place) q || b)) (readers_read before.book changes q c.in_ok-readers.readers.items c.in_ok-readers.ensures)))
-    c.touch_readers.ensures
+    ∙ or_assoc (lies_in before.touched q) (covers (rows_from c.args.sheet c.args.place) q) (list_any (is_reader_of changes q) c.in_ok-readers.readers.items)
+    ∙ ap (λ b. lies_in before.touched q || (covers (rows_from c.args.sheet c.args.place) q || b)) (readers_read before.book changes q c.in_ok-readers.readers.items c.in_ok-readers.ensures)))
+    c.touch_readers.ensures.cells

@@ -1,0 +1,17 @@
+use Rattle.std.proofs.Common.{◌≡◌, ap, refl, subst, sym}
+use Rattle.std.specs.Prelude.{Ok}
+use Rattle.calc_model.specs.declared.edit.Edit.TheVariants.{Make}
+use Rattle.workbook.specs.Workbook.{Made, State}
+use Rattle.workbook.proofs.NameChanges.{generated_stale}
+use Rattle.workbook.proofs.workbook.Workbook.generate.Goals as goal
+
+pub returns-in-Ok-clause-done : goal.returns-in-Ok-clause-done
+returns-in-Ok-clause-done c =
+    let before : State = record { book = c.self.inside.cells; results = c.self.inside.results; touched = c.self.inside.touched; dead = c.self.inside.dead } in
+    let after : State = record { book = c.in-Ok.cells; results = c.self.inside.results; touched = c.all.result; dead = c.self.inside.dead } in
+    subst (λ state. Made state (Make c.args.start c.args.rows) after) c.self.view_is (record {
+      step = ap Ok (sym c.in-Ok.ensures.book);
+      book = c.in-Ok.ensures.is;
+      stale = generated_stale before after c.args.start c.args.rows c.all.ensures.cells;
+      alive = refl;
+    })

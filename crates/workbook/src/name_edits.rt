@@ -1,0 +1,71 @@
+//! Edits of names, and the generated book.
+ghost use Rattle.std.specs.Prelude.{◌≡◌, ◌≤◌, true, IsErrOf, OnOk};
+ghost use Rattle.calc_model.specs.declared.edit.EditCause.{EditCause};
+ghost use Rattle.workbook.specs.Workbook.{IsRefused, Made};
+
+use crate::fault::EditFault;
+use crate::touched::Touched;
+use crate::workbook::Workbook;
+use calc_addr::{Area, NoMemory};
+use calc_model::{Edit, EditCause, MOST_GENERATED_ROWS, Text};
+use calc_names::NameFault;
+use cell_map::CellMap;
+use std::alloc::Global;
+
+impl Workbook {
+    pub(crate) fn define_name(
+        &mut self,
+        alloc: Global,
+        name: &Text,
+        area: Area,
+    ) -> Result<(), EditFault>
+        ensures done { OnOk result (Made self.old (Edit.Name name.now area) self.new) }
+        ensures refused { (cause : EditCause) → IsErrOf result (EditFault.Refused cause) →
+            IsRefused self.old (Edit.Name name.now area) cause self.new }
+        ensures no_memory { IsErrOf result EditFault.NoMemory → self.new.dead ≡ true }
+        ensures not_dead { IsErrOf result EditFault.Dead → ⊥ }
+    {
+        match self.cells.define_name(name, area) {
+            Ok(()) => match self.touched.add_name(alloc, name) {
+                Ok(()) => Ok(()),
+                Err(_) => Err(self.die()),
+            },
+            Err(NameFault::BadName) => Err(EditFault::Refused(EditCause::BadName)),
+            Err(NameFault::Full) => Err(EditFault::Refused(EditCause::NamesFull)),
+            Err(_) => Err(self.die()),
+        }
+    }
+
+    pub(crate) fn remove_name(&mut self, alloc: Global, name: &Text) -> Result<(), EditFault>
+        ensures done { OnOk result (Made self.old (Edit.Unname name.now) self.new) }
+        ensures refused { (cause : EditCause) → IsErrOf result (EditFault.Refused cause) →
+            IsRefused self.old (Edit.Unname name.now) cause self.new }
+        ensures no_memory { IsErrOf result EditFault.NoMemory → self.new.dead ≡ true }
+        ensures not_dead { IsErrOf result EditFault.Dead → ⊥ }
+    {
+        match self.cells.remove_name(name) {
+            Ok(()) => match self.touched.add_name(alloc, name) {
+                Ok(()) => Ok(()),
+                Err(_) => Err(self.die()),
+            },
+            Err(_) => Err(EditFault::Refused(EditCause::NoName)),
+        }
+    }
+
+    pub(crate) fn generate(&mut self, alloc: Global, start: u32, rows: u32) -> Result<(), EditFault>
+        requires { rows ≤ MOST_GENERATED_ROWS }
+        ensures done { OnOk result (Made self.old (Edit.Make start rows) self.new) }
+        ensures refused { (cause : EditCause) → IsErrOf result (EditFault.Refused cause) → ⊥ }
+        ensures no_memory { IsErrOf result EditFault.NoMemory → self.new.dead ≡ true }
+        ensures not_dead { IsErrOf result EditFault.Dead → ⊥ }
+    {
+        match CellMap::generated(alloc, start, rows) {
+            Ok(cells) => {
+                self.cells = cells;
+                self.touched = Touched::all(alloc);
+                Ok(())
+            }
+            Err(_) => Err(self.die()),
+        }
+    }
+}
