@@ -65,6 +65,8 @@ done session number (commands.Edit edit) = edited session number edit (built_ste
 done session number commands.Calc = accepted (recalculated session) (recalculation session)
 done session number (commands.Print area) = accepted (recalculated session) (printed_area (shown_texts (val session.book)) area)
 done session number (commands.Formulas area) = accepted session (printed_area (held_texts session.book) area)
+-- the other commands aren't built yet
+done session number _ = refusal session number causes.BadCommand
 
 unfoldable pub answer : Session → ℕ → Line → Answer
 answer session number Nothing = accepted session []

@@ -54,6 +54,8 @@ fn do_command(
         Command::Calc => recalculate(alloc, workbook),
         Command::Print(area) => print_shown(alloc, workbook, *area),
         Command::Formulas(area) => print_held(alloc, workbook, *area),
+        // The other commands aren't built yet.
+        _ => refuse(alloc, number, Cause::BadCommand),
     }
 }
 

@@ -1,17 +1,17 @@
 -- The commands that lines spell. A line that is empty, has spaces alone or begins with `#` does nothing.
 -- A command's name stands at the line's start. Its other words must be of its form, then all that they
--- name must lie in the sheets, then it must not print more cells than a line may, and then the name that it
+-- name must lie in the sheets, then it must not print, watch or make more than a line may, and then the name that it
 -- defines must be one. What a field of a line holds is given: `field` says it of each text.
 use Rattle.std.specs.Prelude.{ℕ, ◌+◌, ◌==◌, ◌&&◌, nat_le, List, [], ◌∷◌, length, codes, Result, Ok, Err, if◌then◌else◌}
 use Rattle.std.specs.Str.{bytes_eq, is_utf8}
 use Rattle.calc_addr.specs.Places.{Place, Rectangle, cell_count}
-use Rattle.calc_addr.specs.Spelling.{both, row_of, spelled_area, spelled_cell, spelled_row}
+use Rattle.calc_addr.specs.Spelling.{both, row_of, spelled_area, spelled_cell, spelled_col, spelled_row}
 use Rattle.calc_addr.specs.ValidReferences.{is_rectangle}
 use Rattle.calc_addr.specs.declared.cell.TheConstants.{LAST_ROW}
 use Rattle.calc_addr.specs.declared.read.Spelled.{Spelled}
 use Rattle.calc_addr.specs.declared.read.Spelled.TheVariants.{Is, Outside, Not}
 use Rattle.calc_model.specs.declared.content.Content.{Content}
-use Rattle.calc_model.specs.declared.edit.Edit.TheVariants.{Set, Clear, Copy, Fill, InsertRows, DeleteRows, Name, Unname}
+use Rattle.calc_model.specs.declared.edit.Edit.TheVariants.{Set, Clear, Copy, Fill, InsertRows, DeleteRows, Name, Unname, Make}
 use Rattle.calc_model.specs.declared.edit.EditCause.{EditCause}
 use Rattle.calc_model.specs.declared.edit.EditCause.TheVariants.{NotBuilt, OffSheet, BadName, NoName, NamesFull, RowsFull, CellsFull}
 use Rattle.calc_model.specs.CellEdits.{area_at}
@@ -20,7 +20,7 @@ use Rattle.calc_script.specs.declared.command.Line.{Line}
 use Rattle.calc_script.specs.declared.command.Line.TheVariants.{Nothing, Do, Refused}
 use Rattle.calc_script.specs.declared.command.Command.{Command}
 use Rattle.calc_script.specs.declared.command.Command.TheVariants as commands
-use Rattle.calc_script.specs.declared.limits.TheConstants.{MOST_PRINTED}
+use Rattle.calc_script.specs.declared.limits.TheConstants.{MOST_PRINTED, MOST_ROWS, MOST_START, MOST_WATCHED}
 use Rattle.calc_script.specs.declared.command.Cause.{Cause}
 use Rattle.calc_script.specs.declared.command.Cause.TheVariants.{BadCommand, TooLarge, NoWatcher, Edit}
 use Rattle.calc_script.specs.Words.{behind_space, is_idle, up_to_space, without_return, without_spaces, words_of}
@@ -58,10 +58,16 @@ area_of [] = Err BadCommand
 area_of (area ∷ []) = address_of (spelled_area area)
 area_of (area ∷ other ∷ words) = Err BadCommand
 
--- an area of which a line may print every cell
-abbrev pub few_cells : Result Rectangle Cause → Result Rectangle Cause
-few_cells (Ok area) = if nat_le (cell_count area) MOST_PRINTED then Ok area else Err TooLarge
-few_cells (Err cause) = Err cause
+-- an area of at most so many cells
+abbrev pub few_cells : ℕ → Result Rectangle Cause → Result Rectangle Cause
+few_cells most (Ok area) = if nat_le (cell_count area) most then Ok area else Err TooLarge
+few_cells most (Err cause) = Err cause
+
+-- the words of a command that has one column and no more
+unfoldable pub col_of : List (List ℕ) → Result (ℕ × ℕ) Cause
+col_of [] = Err BadCommand
+col_of (col ∷ []) = address_of (spelled_col col)
+col_of (col ∷ other ∷ words) = Err BadCommand
 
 -- a command that has no other word
 abbrev pub bare_line : Command → List (List ℕ) → Line
@@ -144,22 +150,70 @@ unname_line (name ∷ other ∷ words) = Refused BadCommand
 abbrev pub unname_of : List ℕ → Line
 unname_of rest = unname_line (words_of rest)
 
+-- a number that is no more than the most
+abbrev pub no_more : ℕ → Spelled ℕ → Spelled ℕ
+no_more most (Is n) = if nat_le n most then Is n else Outside
+no_more most Outside = Outside
+no_more most Not = Not
+
+-- the number from which a book is made, which may be 0
+abbrev pub start_of : List ℕ → Spelled ℕ
+start_of word = if bytes_eq word (codes "0") then Is 0 else no_more MOST_START (row_of word)
+
+-- numbers, which must have their form, and then be within their limits
+abbrev pub within_limits : {A : Type 0} → Spelled A → Result A Cause
+within_limits (Is numbers) = Ok numbers
+within_limits Outside = Err TooLarge
+within_limits Not = Err BadCommand
+
+-- the start and the number of rows of a book that is made, which is spelled as that of a row is; the most rows are
+-- fewer than those of a sheet
+unfoldable pub sizes_of : List (List ℕ) → Result (ℕ × ℕ) Cause
+sizes_of [] = Err BadCommand
+sizes_of (start ∷ []) = Err BadCommand
+sizes_of (start ∷ rows ∷ []) = within_limits (both (λ a b. (a, b)) (start_of start) (no_more MOST_ROWS (row_of rows)))
+sizes_of (start ∷ rows ∷ third ∷ words) = Err BadCommand
+
+-- `make START ROWS`
+unfoldable pub make_of : List ℕ → Line
+make_of rest = line_with (λ read. commands.Edit (Make read.0 read.1)) (sizes_of (words_of rest))
+
 -- `calc`
 unfoldable pub calc_of : List ℕ → Line
 calc_of rest = bare_line commands.Calc (words_of rest)
 
 -- `print AREA`
 unfoldable pub print_of : List ℕ → Line
-print_of rest = line_with commands.Print (few_cells (area_of (words_of rest)))
+print_of rest = line_with commands.Print (few_cells MOST_PRINTED (area_of (words_of rest)))
 
 -- `formulas AREA`
 unfoldable pub formulas_of : List ℕ → Line
-formulas_of rest = line_with commands.Formulas (few_cells (area_of (words_of rest)))
+formulas_of rest = line_with commands.Formulas (few_cells MOST_PRINTED (area_of (words_of rest)))
 
--- the line of the form with that name, if there is one
+-- `groups COL`
+unfoldable pub groups_of : List ℕ → Line
+groups_of rest = line_with (λ read. commands.Groups read.0 read.1) (col_of (words_of rest))
+
+-- `blocks COL`
+unfoldable pub blocks_of : List ℕ → Line
+blocks_of rest = line_with (λ read. commands.Blocks read.0 read.1) (col_of (words_of rest))
+
+-- `watch AREA`
+unfoldable pub watch_of : List ℕ → Line
+watch_of rest = line_with commands.Watch (few_cells MOST_WATCHED (area_of (words_of rest)))
+
+-- `told`
+unfoldable pub told_of : List ℕ → Line
+told_of rest = bare_line commands.Told (words_of rest)
+
+-- `unwatch`
+unfoldable pub unwatch_of : List ℕ → Line
+unwatch_of rest = bare_line commands.Unwatch (words_of rest)
+
+-- the line of the command with that name, if there is one
 abbrev pub named_line : List (List ℕ × (List ℕ → Line)) → List ℕ → List ℕ → Line
 named_line [] name rest = Refused BadCommand
-named_line (form ∷ others) name rest = if bytes_eq name form.0 then form.1 rest else named_line others name rest
+named_line (verb ∷ others) name rest = if bytes_eq name verb.0 then verb.1 rest else named_line others name rest
 
 module _ (field : List ℕ → Content) where
   -- a cell, one space, and the field, which has a byte at least
@@ -173,8 +227,8 @@ module _ (field : List ℕ → Content) where
   set_of rest = set_line (up_to_space (without_spaces rest)) (behind_space (without_spaces rest))
 
   -- the commands, each with its name, and what it does with what follows the space behind that
-  abbrev pub forms : List (List ℕ × (List ℕ → Line))
-  forms =
+  abbrev pub verbs : List (List ℕ × (List ℕ → Line))
+  verbs =
       (codes "set", set_of)
       ∷ (codes "clear", clear_of)
       ∷ (codes "copy", copy_of)
@@ -183,13 +237,19 @@ module _ (field : List ℕ → Content) where
       ∷ (codes "delete", delete_of)
       ∷ (codes "name", name_of)
       ∷ (codes "unname", unname_of)
+      ∷ (codes "make", make_of)
       ∷ (codes "calc", calc_of)
       ∷ (codes "print", print_of)
       ∷ (codes "formulas", formulas_of)
+      ∷ (codes "groups", groups_of)
+      ∷ (codes "blocks", blocks_of)
+      ∷ (codes "watch", watch_of)
+      ∷ (codes "told", told_of)
+      ∷ (codes "unwatch", unwatch_of)
       ∷ []
 
   unfoldable pub command_of : List ℕ → List ℕ → Line
-  command_of name rest = named_line forms name rest
+  command_of name rest = named_line verbs name rest
 
   -- a line without its return: a command is a text, and its name stands before the first space
   unfoldable pub text_line : List ℕ → Line

@@ -1,3 +1,3 @@
 pub mod Words
 pub mod Commands
-pub mod Forms
+pub mod Verbs

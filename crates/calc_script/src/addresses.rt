@@ -1,15 +1,17 @@
 ghost use Rattle.calc_addr.specs.Spelling.{are_digits, both, row_of, spelled_area, spelled_cell, spelled_row};
 ghost use Rattle.calc_addr.specs.ValidReferences.{is_rectangle};
 ghost use Rattle.calc_model.specs.CellEdits.{area_at};
-ghost use Rattle.calc_script.specs.Commands.{address_of, area_of, few_cells, of_one_sheet, on_one_sheet, rows_of, tested, two_addresses};
+ghost use Rattle.calc_script.specs.Commands.{address_of, area_of, col_of, few_cells, no_more, of_one_sheet, on_one_sheet, rows_of, sizes_of, start_of, tested, two_addresses, within_limits};
 ghost use Rattle.std.specs.Char.{is_ascii_digit};
 ghost use Rattle.std.specs.List.{list_all};
 ghost use Rattle.std.specs.Prelude.{◌≡◌};
 
 use crate::command::Cause;
-use crate::limits::MOST_PRINTED;
+use crate::limits::{MOST_ROWS, MOST_START};
 use crate::words::LineWords;
-use calc_addr::{Area, Cell, LAST_COL, LAST_ROW, Spelled, read_area, read_cell, read_row};
+use calc_addr::{
+    Area, Cell, LAST_COL, LAST_ROW, Spelled, read_area, read_cell, read_col, read_row,
+};
 use calc_model::EditCause;
 
 /// The area of words that are one area.
@@ -23,15 +25,26 @@ pub(crate) fn read_only_area(mut words: LineWords<'_>) -> Result<Area, Cause>
     }
 }
 
-/// The same of an area of which a line may print every cell.
-pub(crate) fn read_few_cells(words: LineWords<'_>) -> Result<Area, Cause>
-    ensures { result ≡ few_cells (area_of words.entry) }
+/// The same of an area that has at most so many cells.
+pub(crate) fn read_few_cells(words: LineWords<'_>, most: u64) -> Result<Area, Cause>
+    ensures { result ≡ few_cells most (area_of words.entry) }
 {
     let area = read_only_area(words)?;
-    if area.cell_count() > MOST_PRINTED {
+    if area.cell_count() > most {
         return Err(Cause::TooLarge);
     }
     Ok(area)
+}
+
+/// The column of words that are one column, with its sheet.
+#[tactic(auto, unfolding(crate::specs::Commands::col_of))]
+pub(crate) fn read_only_col(mut words: LineWords<'_>) -> Result<(u8, u16), Cause>
+    ensures { result ≡ col_of words.entry }
+{
+    match (words.next(), words.next()) {
+        (Some(word), None) => address(read_col(word)),
+        _ => Err(Cause::BadCommand),
+    }
 }
 
 /// An area, and a cell of its sheet where another of its size can begin.
@@ -123,6 +136,50 @@ fn read_count(word: &[u8]) -> Spelled<u32>
         Spelled::Is((_, count)) => Spelled::Is(count),
         Spelled::Outside => Spelled::Outside,
         Spelled::Not => Spelled::Not,
+    }
+}
+
+/// The start and the number of rows of a book that is made.
+#[tactic(auto, unfolding(crate::specs::Commands::sizes_of))]
+pub(crate) fn read_sizes(mut words: LineWords<'_>) -> Result<(u32, u32), Cause>
+    ensures { result ≡ sizes_of words.entry }
+{
+    match (words.next(), words.next(), words.next()) {
+        (Some(start), Some(rows), None) => {
+            within_limits(read_start(start), read_count_to(rows, MOST_ROWS))
+        }
+        _ => Err(Cause::BadCommand),
+    }
+}
+
+/// The number from which a book is made.
+fn read_start(word: &[u8]) -> Spelled<u32>
+    ensures { result ≡ start_of word.now }
+{
+    if word == b"0".as_slice() {
+        return Spelled::Is(0);
+    }
+    read_count_to(word, MOST_START)
+}
+
+/// A number of rows that is no more than the most.
+fn read_count_to(word: &[u8], most: u32) -> Spelled<u32>
+    ensures { result ≡ no_more most (row_of word.now) }
+{
+    match read_count(word) {
+        Spelled::Is(count) if count > most => Spelled::Outside,
+        count => count,
+    }
+}
+
+/// Two numbers: first both must have their form, and then both must be within their limits.
+fn within_limits(first: Spelled<u32>, second: Spelled<u32>) -> Result<(u32, u32), Cause>
+    ensures { result ≡ within_limits (both (λ a b. (a, b)) first second) }
+{
+    match (first, second) {
+        (Spelled::Not, _) | (_, Spelled::Not) => Err(Cause::BadCommand),
+        (Spelled::Outside, _) | (_, Spelled::Outside) => Err(Cause::TooLarge),
+        (Spelled::Is(first), Spelled::Is(second)) => Ok((first, second)),
     }
 }
 

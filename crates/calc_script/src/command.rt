@@ -21,6 +21,16 @@ pub enum Command {
     Print(Area),
     /// Prints the contents of the area's cells, a record for each row.
     Formulas(Area),
+    /// Prints the formula groups of the column, a line for each, downwards.
+    Groups { sheet: u8, col: u16 },
+    /// Prints the runs of the column's rows that hold one kind of content, a line for each, downwards.
+    Blocks { sheet: u8, col: u16 },
+    /// Recalculates, and attaches a watcher of the area.
+    Watch(Area),
+    /// Prints what the attached watchers were told.
+    Told,
+    /// Drops the watcher that was attached last.
+    Unwatch,
 }
 
 /// Why a line is refused.
@@ -28,7 +38,8 @@ pub enum Command {
 pub enum Cause {
     /// The line isn't of the form of a command.
     BadCommand,
-    /// The area has more cells than a line may print.
+    /// The area has more cells than a line may print or watch, or the book to be made starts too
+    /// high or has too many rows.
     TooLarge,
     /// No watcher is left, or none is attached.
     NoWatcher,

@@ -1,9 +1,9 @@
 ghost use Rattle.calc_model.specs.OverFields.{ReadsOver};
-ghost use Rattle.calc_script.specs.Commands.{area_for, area_of, clear_of, copy_of, delete_of, fill_of, insert_of, name_line, name_of, set_line, set_of, tested, unname_line, unname_of};
+ghost use Rattle.calc_script.specs.Commands.{area_for, area_of, clear_of, copy_of, delete_of, fill_of, insert_of, make_of, name_line, name_of, set_line, set_of, tested, unname_line, unname_of};
 ghost use Rattle.std.specs.Prelude.{IfOk, ◌∷◌, ◌≡◌};
 ghost use Rattle.std.specs.Str.{IsUtf8};
 
-use crate::addresses::{read_copied, read_filled, read_only_area, read_rows};
+use crate::addresses::{read_copied, read_filled, read_only_area, read_rows, read_sizes};
 use crate::command::{Cause, Command, Line};
 use crate::words::{LineWords, cut_word, first_word, without_spaces, words};
 use calc_addr::{Area, NoMemory, Spelled, read_cell};
@@ -156,6 +156,16 @@ fn unname_alone(alloc: Global, name: &[u8], mut words: LineWords<'_>) -> Result<
             let name = text_of(alloc, name)?;
             Ok(Line::Do(Command::Edit(Edit::Unname { name })))
         }
+    }
+}
+
+#[tactic(auto, unfolding(crate::specs::Commands::make_of))]
+pub(crate) fn make(rest: &[u8]) -> Line
+    ensures { result ≡ make_of rest.now }
+{
+    match read_sizes(words(rest)) {
+        Ok((start, rows)) => Line::Do(Command::Edit(Edit::Make { start, rows })),
+        Err(cause) => Line::Refused(cause),
     }
 }
 

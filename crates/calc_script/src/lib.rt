@@ -4,12 +4,12 @@
 mod addresses;
 mod command;
 mod edits;
-mod forms;
 mod limits;
 mod read;
+mod verbs;
 mod words;
 
 pub use byte_cuts::{TextLines as ScriptLines, lines};
 pub use command::{Cause, Command, Line};
-pub use limits::MOST_PRINTED;
+pub use limits::{MOST_PRINTED, MOST_ROWS, MOST_START, MOST_WATCHED};
 pub use read::read_line;

@@ -1,14 +1,15 @@
 ghost use Rattle.calc_model.specs.OverFields.{ReadsOver};
-ghost use Rattle.calc_script.specs.Commands.{calc_of, command_of, formulas_of, line_of, print_of, text_line};
-ghost use Rattle.calc_script.specs.Forms.{form_line};
-ghost use Rattle.calc_script.specs.Words.{behind_space, up_to_space};
+ghost use Rattle.calc_script.specs.Commands.{bare_line, blocks_of, calc_of, command_of, formulas_of, groups_of, line_of, print_of, text_line, told_of, unwatch_of, watch_of};
+ghost use Rattle.calc_script.specs.Verbs.{verb_line};
+ghost use Rattle.calc_script.specs.Words.{behind_space, up_to_space, words_of};
 ghost use Rattle.std.specs.Prelude.{◌≡◌};
 ghost use Rattle.std.specs.Str.{IsUtf8};
 
-use crate::addresses::read_few_cells;
+use crate::addresses::{read_few_cells, read_only_col};
 use crate::command::{Cause, Command, Line};
-use crate::edits::{clear, copy, delete, fill, insert, name, set, unname};
-use crate::forms::{Form, form_of};
+use crate::edits::{clear, copy, delete, fill, insert, make, name, set, unname};
+use crate::limits::{MOST_PRINTED, MOST_WATCHED};
+use crate::verbs::{Verb, verb_of};
 use crate::words::{cut_word, is_idle, without_return, words};
 use calc_addr::NoMemory;
 use std::alloc::Global;
@@ -40,28 +41,34 @@ fn read_command(alloc: Global, text: &[u8]) -> Result<Line, NoMemory>
         command_of field (up_to_space text.now) (behind_space text.now)) }
 {
     let (word, rest) = cut_word(text);
-    match form_of(word) {
-        Some(form) => read_form(alloc, form, rest),
+    match verb_of(word) {
+        Some(verb) => read_verb(alloc, verb, rest),
         None => Ok(Line::Refused(Cause::BadCommand)),
     }
 }
 
-fn read_form(alloc: Global, form: Form, rest: &[u8]) -> Result<Line, NoMemory>
+fn read_verb(alloc: Global, verb: Verb, rest: &[u8]) -> Result<Line, NoMemory>
     requires { IsUtf8 rest.now }
-    ensures { ReadsOver result (λ field. form_line field form rest.now) }
+    ensures { ReadsOver result (λ field. verb_line field verb rest.now) }
 {
-    match form {
-        Form::Set => set(alloc, rest),
-        Form::Clear => Ok(clear(rest)),
-        Form::Copy => Ok(copy(rest)),
-        Form::Fill => Ok(fill(rest)),
-        Form::Insert => Ok(insert(rest)),
-        Form::Delete => Ok(delete(rest)),
-        Form::Name => name(alloc, rest),
-        Form::Unname => unname(alloc, rest),
-        Form::Calc => Ok(calc(rest)),
-        Form::Print => Ok(print(rest)),
-        Form::Formulas => Ok(formulas(rest)),
+    match verb {
+        Verb::Set => set(alloc, rest),
+        Verb::Clear => Ok(clear(rest)),
+        Verb::Copy => Ok(copy(rest)),
+        Verb::Fill => Ok(fill(rest)),
+        Verb::Insert => Ok(insert(rest)),
+        Verb::Delete => Ok(delete(rest)),
+        Verb::Name => name(alloc, rest),
+        Verb::Unname => unname(alloc, rest),
+        Verb::Make => Ok(make(rest)),
+        Verb::Calc => Ok(calc(rest)),
+        Verb::Print => Ok(print(rest)),
+        Verb::Formulas => Ok(formulas(rest)),
+        Verb::Groups => Ok(groups(rest)),
+        Verb::Blocks => Ok(blocks(rest)),
+        Verb::Watch => Ok(watch(rest)),
+        Verb::Told => Ok(told(rest)),
+        Verb::Unwatch => Ok(unwatch(rest)),
     }
 }
 
@@ -69,17 +76,14 @@ fn read_form(alloc: Global, form: Form, rest: &[u8]) -> Result<Line, NoMemory>
 fn calc(rest: &[u8]) -> Line
     ensures { result ≡ calc_of rest.now }
 {
-    match words(rest).next() {
-        None => Line::Do(Command::Calc),
-        Some(_) => Line::Refused(Cause::BadCommand),
-    }
+    bare(rest, Command::Calc)
 }
 
 #[tactic(auto, unfolding(crate::specs::Commands::print_of))]
 fn print(rest: &[u8]) -> Line
     ensures { result ≡ print_of rest.now }
 {
-    match read_few_cells(words(rest)) {
+    match read_few_cells(words(rest), MOST_PRINTED) {
         Ok(area) => Line::Do(Command::Print(area)),
         Err(cause) => Line::Refused(cause),
     }
@@ -89,8 +93,62 @@ fn print(rest: &[u8]) -> Line
 fn formulas(rest: &[u8]) -> Line
     ensures { result ≡ formulas_of rest.now }
 {
-    match read_few_cells(words(rest)) {
+    match read_few_cells(words(rest), MOST_PRINTED) {
         Ok(area) => Line::Do(Command::Formulas(area)),
         Err(cause) => Line::Refused(cause),
+    }
+}
+
+#[tactic(auto, unfolding(crate::specs::Commands::groups_of))]
+fn groups(rest: &[u8]) -> Line
+    ensures { result ≡ groups_of rest.now }
+{
+    match read_only_col(words(rest)) {
+        Ok((sheet, col)) => Line::Do(Command::Groups { sheet, col }),
+        Err(cause) => Line::Refused(cause),
+    }
+}
+
+#[tactic(auto, unfolding(crate::specs::Commands::blocks_of))]
+fn blocks(rest: &[u8]) -> Line
+    ensures { result ≡ blocks_of rest.now }
+{
+    match read_only_col(words(rest)) {
+        Ok((sheet, col)) => Line::Do(Command::Blocks { sheet, col }),
+        Err(cause) => Line::Refused(cause),
+    }
+}
+
+#[tactic(auto, unfolding(crate::specs::Commands::watch_of))]
+fn watch(rest: &[u8]) -> Line
+    ensures { result ≡ watch_of rest.now }
+{
+    match read_few_cells(words(rest), MOST_WATCHED) {
+        Ok(area) => Line::Do(Command::Watch(area)),
+        Err(cause) => Line::Refused(cause),
+    }
+}
+
+#[tactic(auto, unfolding(crate::specs::Commands::told_of))]
+fn told(rest: &[u8]) -> Line
+    ensures { result ≡ told_of rest.now }
+{
+    bare(rest, Command::Told)
+}
+
+#[tactic(auto, unfolding(crate::specs::Commands::unwatch_of))]
+fn unwatch(rest: &[u8]) -> Line
+    ensures { result ≡ unwatch_of rest.now }
+{
+    bare(rest, Command::Unwatch)
+}
+
+/// The command, where no words follow it.
+fn bare(rest: &[u8], command: Command) -> Line
+    ensures { result ≡ bare_line command (words_of rest.now) }
+{
+    match words(rest).next() {
+        None => Line::Do(command),
+        Some(_) => Line::Refused(Cause::BadCommand),
     }
 }

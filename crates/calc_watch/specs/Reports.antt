@@ -5,13 +5,14 @@ use Rattle.std.specs.Prelude.{◌≡◌, ℕ, ◌+◌, Bool, true, false, List, 
 use Rattle.std.specs.List.{flat_map}
 use Rattle.std.specs.Ordering.{int_eq}
 use Rattle.std.specs.Str.{bytes_eq}
-use Rattle.csv.specs.Writing.{default_writer, row_text}
 use Rattle.calc_addr.specs.Addresses.{address}
 use Rattle.calc_addr.specs.Places.{Place, Rectangle, places}
+use Rattle.calc_model.specs.Meanings.{values_in}
 use Rattle.calc_model.specs.Scalars.{CellValues}
 use Rattle.calc_model.specs.ValueTexts.{fault_text, text_of}
 use Rattle.calc_model.specs.declared.value.Value.{Value}
 use Rattle.calc_model.specs.declared.value.Value.TheVariants.{Number, Words, Bad, Blank}
+use Rattle.csv_records.specs.Records.{record_text}
 use Rattle.calc_watch.specs.declared.report.Report.{Report}
 
 -- a watcher with its area, the values that it last knew, and all that it was told
@@ -46,10 +47,6 @@ changes values (cell ∷ cells) (value ∷ known) =
     if same_value (values cell) value then changes values cells known
     else report_of values cell ∷ changes values cells known
 
--- the values of an area's cells
-abbrev pub values_in : CellValues → Rectangle → List Value
-values_in values area = map values (places area)
-
 abbrev pub reports : CellValues → Watched → List Report
 reports values watch = changes values (places watch.area) watch.known
 
@@ -69,7 +66,7 @@ pub record IsToldInPart (values : CellValues) (old new : List Watched) : Type 0 
 
 -- a line for each report: a record of the cell's address and the text that it shows
 abbrev pub report_line : Report → List ℕ
-report_line report = row_text default_writer (address report.cell ∷ report.shown ∷ [])
+report_line report = record_text (address report.cell ∷ report.shown ∷ [])
 
 unfoldable pub described : List Report → List ℕ
 described told = flat_map report_line told

@@ -1,5 +1,6 @@
 ghost use Rattle.calc_addr.specs.Places.{cell_count};
-ghost use Rattle.calc_watch.specs.Reports.{IsToldInPart, described, told_all, told_first, values_in, watched};
+ghost use Rattle.calc_model.specs.Meanings.{values_in};
+ghost use Rattle.calc_watch.specs.Reports.{IsToldInPart, described, told_all, told_first, watched};
 ghost use Rattle.std.specs.List.{flat_map};
 ghost use Rattle.std.specs.Prelude.{OnErr, OnOk, [], length, map, nat_lt, take, ℕ, ◌++◌, ◌-◌, ◌∷◌, ◌≡◌, ◌≤◌};
 

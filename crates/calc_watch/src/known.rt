@@ -1,6 +1,7 @@
 ghost use Rattle.calc_addr.specs.Places.{places};
+ghost use Rattle.calc_model.specs.Meanings.{values_in};
 ghost use Rattle.calc_model.specs.ValueTexts.{lent, text_of};
-ghost use Rattle.calc_watch.specs.Reports.{changes, same_value, values_in};
+ghost use Rattle.calc_watch.specs.Reports.{changes, same_value};
 ghost use Rattle.std.specs.Prelude.{IfOk, ◌≡◌};
 
 use crate::report::Report;
@@ -10,6 +11,7 @@ use calc_num::Num;
 use std::alloc::Global;
 
 /// The values of the area's cells, in area order.
+#[tactic(auto, unfolding(calc_model::specs::Meanings::values_in))]
 pub(crate) fn values_in<V: Values>(
     alloc: Global,
     values: &V,

@@ -1,15 +1,14 @@
 ghost use Rattle.calc_addr.specs.Addresses.{address};
-ghost use Rattle.calc_watch.specs.Reports.{described, report_line};
-ghost use Rattle.calc_watch.specs.Writers.{Holds};
+ghost use Rattle.calc_watch.specs.Reports.{described};
 ghost use Rattle.csv.specs.Records.{fields_of};
-ghost use Rattle.csv.specs.Writing.{default_writer, row_text};
-ghost use Rattle.std.specs.Prelude.{IfOk, List, OnOk, [], ℕ, ◌++◌, ◌∷◌, ◌≡◌};
+ghost use Rattle.std.specs.Prelude.{IfOk, OnOk, [], ◌∷◌, ◌≡◌};
 
 use crate::report::Report;
 use crate::watcher::Watcher;
 use calc_addr::{NoMemory, write_cell};
-use csv::{ByteRecord, Writer, WriterBuilder};
-use std::alloc::{AllocError, Global};
+use csv::ByteRecord;
+use csv_records::{write_record, writer_to, written_by};
+use std::alloc::Global;
 use std::marker::Model;
 
 /// A watcher that keeps what it is told. Contracts see its reports.
@@ -78,32 +77,4 @@ fn fill_record(report: &Report, fields: &mut ByteRecord) -> Result<(), NoMemory>
     fields.push_field(write_cell(report.cell).bytes())?;
     fields.push_field(report.shown.bytes())?;
     Ok(())
-}
-
-fn writer_to(out: Vec<u8>) -> Writer<Vec<u8>>
-    ensures { Holds result out.items }
-{
-    WriterBuilder::new().from_writer(out)
-}
-
-/// Writes one record. All records have one length, so only memory can be wanting.
-fn write_record(writer: &mut Writer<Vec<u8>>, fields: &ByteRecord) -> Result<(), NoMemory>
-    ensures { (bytes : List ℕ) → Holds writer.old bytes
-        → OnOk result (Holds writer.new
-        (bytes ++ row_text default_writer (fields_of fields.now))) }
-{
-    match writer.write_byte_record(fields) {
-        Ok(()) => Ok(()),
-        Err(_) => Err(AllocError),
-    }
-}
-
-fn written_by(writer: Writer<Vec<u8>>) -> Result<Vec<u8>, NoMemory>
-    ensures { (bytes : List ℕ) → Holds writer bytes
-        → IfOk result (λ text. text.items ≡ bytes) }
-{
-    match writer.into_inner() {
-        Ok(text) => Ok(text),
-        Err(_) => Err(AllocError),
-    }
 }

@@ -1,6 +1,6 @@
 -- the values so far, and those of the cells that are left
 use Rattle.std.proofs.Common.{◌≡◌, ◌++◌, map}
-use Rattle.calc_watch.specs.Reports.{values_in}
+use Rattle.calc_model.specs.Meanings.{values_in}
 use Rattle.calc_watch.proofs.known.values_in.Given as goal
 
 abbrev pub invariant-loop-cell : goal.invariant-loop-cell

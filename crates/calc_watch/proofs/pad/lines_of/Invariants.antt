@@ -1,7 +1,7 @@
 -- the lines of the reports so far
 use Rattle.std.proofs.Common.{take}
 use Rattle.calc_watch.specs.Reports.{described}
-use Rattle.calc_watch.specs.Writers.{Holds}
+use Rattle.csv_records.specs.Writers.{Holds}
 use Rattle.calc_watch.proofs.pad.lines_of.Given as goal
 
 abbrev pub invariant-loop-report : goal.invariant-loop-report
