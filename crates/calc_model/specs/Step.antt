@@ -44,6 +44,11 @@ step book (Unname name) =
     if is_defined book.names name then Ok (record book { names = without_name book.names name }) else Err NoName
 step book (Make start rows) = Ok (generated_book start rows)
 
+-- a generated book has no more rows than such a book may have
+abbrev pub is_makeable : Edit → Bool
+is_makeable (Make start rows) = nat_le rows MOST_GENERATED_ROWS
+is_makeable _ = true
+
 -- an edit whose cells, areas, contents and rows are what they can be
 abbrev pub is_edit : Edit → Bool
 is_edit (Set cell content) = is_place cell && (not (is_held content) || is_content content)

@@ -7,3 +7,4 @@ pub mod VerbTable
 pub mod Counts
 mod EditExamples
 mod WatchExamples
+pub mod SmallBooks

@@ -2,7 +2,7 @@
 -- A command's name stands at the line's start. Its other words must be of its form, then all that they
 -- name must lie in the sheets, then it must not print, watch or make more than a line may, and then the name that it
 -- defines must be one. What a field of a line holds is given: `field` says it of each text.
-use Rattle.std.specs.Prelude.{ℕ, ◌+◌, ◌==◌, ◌&&◌, nat_le, List, [], ◌∷◌, length, codes, Result, Ok, Err, if◌then◌else◌}
+use Rattle.std.specs.Prelude.{◌≡◌, ℕ, ◌+◌, ◌==◌, ◌&&◌, nat_le, Bool, true, List, [], ◌∷◌, length, codes, Result, Ok, Err, if◌then◌else◌}
 use Rattle.std.specs.Str.{bytes_eq, is_utf8}
 use Rattle.calc_addr.specs.Places.{Place, Rectangle, cell_count}
 use Rattle.calc_addr.specs.Spelling.{both, row_of, spelled_area, spelled_cell, spelled_col, spelled_row}
@@ -11,23 +11,24 @@ use Rattle.calc_addr.specs.declared.cell.TheConstants.{LAST_ROW}
 use Rattle.calc_addr.specs.declared.read.Spelled.{Spelled}
 use Rattle.calc_addr.specs.declared.read.Spelled.TheVariants.{Is, Outside, Not}
 use Rattle.calc_model.specs.declared.content.Content.{Content}
+use Rattle.calc_model.specs.declared.limits.TheConstants.{MOST_GENERATED_ROWS, MOST_START}
 use Rattle.calc_model.specs.declared.edit.Edit.TheVariants.{Set, Clear, Copy, Fill, InsertRows, DeleteRows, Name, Unname, Make}
 use Rattle.calc_model.specs.declared.edit.EditCause.{EditCause}
-use Rattle.calc_model.specs.declared.edit.EditCause.TheVariants.{NotBuilt, OffSheet, BadName, NoName, NamesFull, RowsFull, CellsFull}
+use Rattle.calc_model.specs.declared.edit.EditCause.TheVariants.{OffSheet, BadName, NoName, NamesFull, RowsFull, CellsFull}
 use Rattle.calc_model.specs.CellEdits.{area_at}
+use Rattle.calc_model.specs.Step.{is_makeable}
 use Rattle.calc_model.specs.Tokens.{is_name}
 use Rattle.calc_script.specs.declared.command.Line.{Line}
 use Rattle.calc_script.specs.declared.command.Line.TheVariants.{Nothing, Do, Refused}
 use Rattle.calc_script.specs.declared.command.Command.{Command}
 use Rattle.calc_script.specs.declared.command.Command.TheVariants as commands
-use Rattle.calc_script.specs.declared.limits.TheConstants.{MOST_PRINTED, MOST_ROWS, MOST_START, MOST_WATCHED}
+use Rattle.calc_script.specs.declared.limits.TheConstants.{MOST_PRINTED, MOST_WATCHED}
 use Rattle.calc_script.specs.declared.command.Cause.{Cause}
 use Rattle.calc_script.specs.declared.command.Cause.TheVariants.{BadCommand, TooLarge, NoWatcher, Edit}
 use Rattle.calc_script.specs.Words.{behind_space, is_idle, up_to_space, without_return, without_spaces, words_of}
 
 -- the word that is printed for a cause
 abbrev pub edit_cause_word : EditCause → List ℕ
-edit_cause_word NotBuilt = codes "command"
 edit_cause_word OffSheet = codes "off-sheet"
 edit_cause_word BadName = codes "bad-name"
 edit_cause_word NoName = codes "no-name"
@@ -171,7 +172,7 @@ within_limits Not = Err BadCommand
 unfoldable pub sizes_of : List (List ℕ) → Result (ℕ × ℕ) Cause
 sizes_of [] = Err BadCommand
 sizes_of (start ∷ []) = Err BadCommand
-sizes_of (start ∷ rows ∷ []) = within_limits (both (λ a b. (a, b)) (start_of start) (no_more MOST_ROWS (row_of rows)))
+sizes_of (start ∷ rows ∷ []) = within_limits (both (λ a b. (a, b)) (start_of start) (no_more MOST_GENERATED_ROWS (row_of rows)))
 sizes_of (start ∷ rows ∷ third ∷ words) = Err BadCommand
 
 -- `make START ROWS`
@@ -259,3 +260,16 @@ module _ (field : List ℕ → Content) where
 
   abbrev pub line_of : List ℕ → Line
   line_of line = text_line (without_return line)
+
+-- a command whose edit can be made
+abbrev pub is_makeable_command : Command → Bool
+is_makeable_command (commands.Edit edit) = is_makeable edit
+is_makeable_command _ = true
+
+abbrev pub is_makeable_line : Line → Bool
+is_makeable_line (Do command) = is_makeable_command command
+is_makeable_line _ = true
+
+-- No line makes a greater book than such a book may be.
+abbrev pub MakesSmallBooks : Type 0
+MakesSmallBooks = (field : List ℕ → Content) (line : List ℕ) → is_makeable_line (line_of field line) ≡ true

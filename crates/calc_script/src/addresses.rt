@@ -7,12 +7,11 @@ ghost use Rattle.std.specs.List.{list_all};
 ghost use Rattle.std.specs.Prelude.{◌≡◌};
 
 use crate::command::Cause;
-use crate::limits::{MOST_ROWS, MOST_START};
 use crate::words::LineWords;
 use calc_addr::{
     Area, Cell, LAST_COL, LAST_ROW, Spelled, read_area, read_cell, read_col, read_row,
 };
-use calc_model::EditCause;
+use calc_model::{EditCause, MOST_GENERATED_ROWS, MOST_START};
 
 /// The area of words that are one area.
 #[tactic(auto, unfolding(crate::specs::Commands::area_of))]
@@ -146,7 +145,7 @@ pub(crate) fn read_sizes(mut words: LineWords<'_>) -> Result<(u32, u32), Cause>
 {
     match (words.next(), words.next(), words.next()) {
         (Some(start), Some(rows), None) => {
-            within_limits(read_start(start), read_count_to(rows, MOST_ROWS))
+            within_limits(read_start(start), read_count_to(rows, MOST_GENERATED_ROWS))
         }
         _ => Err(Cause::BadCommand),
     }

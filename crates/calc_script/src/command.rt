@@ -66,8 +66,6 @@ fn edit_cause_word(cause: EditCause) -> &'static str
     ensures { result.now ≡ edit_cause_word cause }
 {
     match cause {
-        // a line whose edit is not built is no command yet
-        EditCause::NotBuilt => "command",
         EditCause::OffSheet => "off-sheet",
         EditCause::BadName => "bad-name",
         EditCause::NoName => "no-name",

@@ -4,6 +4,7 @@
 mod addresses;
 mod command;
 mod edits;
+mod laws;
 mod limits;
 mod read;
 mod verbs;
@@ -11,5 +12,6 @@ mod words;
 
 pub use byte_cuts::{TextLines as ScriptLines, lines};
 pub use command::{Cause, Command, Line};
-pub use limits::{MOST_PRINTED, MOST_ROWS, MOST_START, MOST_WATCHED};
+pub use laws::lines_make_small_books;
+pub use limits::{MOST_PRINTED, MOST_WATCHED};
 pub use read::read_line;

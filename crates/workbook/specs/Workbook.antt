@@ -1,11 +1,10 @@
 -- A workbook: its book, the results of the last recalculation, the cells that edits touched since then, and whether it
 -- is dead. A formula that reaches a touched cell is stale.
-use Rattle.std.specs.Prelude.{◌≡◌, ◌&&◌, nat_le, Bool, true, List, Ok, Err}
+use Rattle.std.specs.Prelude.{◌≡◌, ◌&&◌, Bool, true, List, Ok, Err}
 use Rattle.calc_addr.specs.Places.{Place}
 use Rattle.calc_model.specs.declared.value.Value.{Value}
-use Rattle.calc_model.specs.declared.limits.TheConstants.{MOST_GENERATED_ROWS}
 use Rattle.calc_model.specs.declared.edit.Edit.{Edit}
-use Rattle.calc_model.specs.declared.edit.Edit.TheVariants.{Set, Clear, Make}
+use Rattle.calc_model.specs.declared.edit.Edit.TheVariants.{Set, Clear}
 use Rattle.calc_model.specs.declared.edit.EditCause.{EditCause}
 use Rattle.calc_model.specs.Books.{Book, IsBook}
 use Rattle.calc_model.specs.Results.{shown_by}
@@ -33,11 +32,6 @@ values_of state = shown_by state.book (results_of state.results)
 -- the formulas that are stale after an edit, by those before it
 abbrev pub Stales : State → Edit → State → Type 0
 Stales before edit after = (q : Place) → stale_of after q ≡ stale_after before.book edit after.book (stale_of before) q
-
--- The generated book has no more rows than a line may ask for.
-abbrev pub is_makeable : Edit → Bool
-is_makeable (Make start rows) = nat_le rows MOST_GENERATED_ROWS
-is_makeable _ = true
 
 -- the edit was made
 pub record Made (before : State) (edit : Edit) (after : State) : Type 0 where

@@ -2,6 +2,7 @@
 ghost use Rattle.std.specs.Prelude.{◌≡◌, ◌≤◌, ◌↔◌, ◌++◌, [], length, IfOk, IsErrOf, OnOk, OnErr, false, true};
 ghost use Rattle.calc_addr.specs.Places.{Place};
 ghost use Rattle.calc_model.specs.Books.{content_at, formula_count, with_content};
+ghost use Rattle.calc_model.specs.Step.{is_makeable};
 ghost use Rattle.calc_model.specs.Stale.{count_in, is_formula_cell};
 ghost use Rattle.calc_model.specs.Printed.{printed_content};
 ghost use Rattle.calc_model.specs.Val.{val};
@@ -9,7 +10,7 @@ ghost use Rattle.calc_model.specs.ValueTexts.{lent};
 ghost use Rattle.cell_map.specs.ShownCells.{shown_values};
 ghost use Rattle.calc_model.specs.declared.edit.EditCause.{EditCause};
 ghost use Rattle.workbook.specs.Touched.{contains_cell};
-ghost use Rattle.workbook.specs.Workbook.{AfterNoMemory, IsRefused, Made, is_makeable, stale_of, values_of};
+ghost use Rattle.workbook.specs.Workbook.{AfterNoMemory, IsRefused, Made, stale_of, values_of};
 
 use crate::fault::EditFault;
 use crate::reach::reached;
