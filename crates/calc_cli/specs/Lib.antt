@@ -4,6 +4,5 @@ pub mod Output
 pub mod Ending
 pub mod Runs
 pub mod Messages
-pub mod Writers
 pub mod Sessions
 pub mod Inputs

@@ -1,18 +1,20 @@
 -- What the lines of a script write, one after the other, over a book. A line that is refused writes
--- `line N refused: CAUSE`, where N is its number from 1 on, and changes nothing. An edit writes nothing.
+-- `line N refused: CAUSE`, where N is its number from 1 on, and changes nothing. An edit writes nothing, but
+-- `make` writes `made C cells, F formulas`, the numbers of the new book's cells and formulas.
 -- `calc` writes `recalculated N`, where N is the number of stale formulas, and recalculates. `print`
 -- recalculates and writes what its cells show, each evaluated alone from scratch; `formulas` writes what
 -- they hold. After a recalculation no formula is stale. What a field of a line holds is given: `field` says it
 -- of each text.
-use Rattle.std.specs.Prelude.{ℕ, ◌+◌, ◌||◌, Bool, true, false, List, [], ◌∷◌, ◌++◌, codes, Result, Ok, Err}
+use Rattle.std.specs.Prelude.{ℕ, ◌+◌, ◌||◌, Bool, true, false, List, [], ◌∷◌, ◌++◌, length, codes, Result, Ok, Err}
 use Rattle.std.specs.Fmt.{decimal}
-use Rattle.calc_model.specs.Books.{Book}
+use Rattle.calc_model.specs.Books.{Book, formula_count}
 use Rattle.calc_model.specs.Touched.{CellSet}
 use Rattle.calc_model.specs.Stale.{count_in, is_formula_cell, stale_after}
-use Rattle.workbook.specs.BuiltStep.{built_step}
+use Rattle.calc_model.specs.Step.{step}
 use Rattle.calc_model.specs.Val.{val}
 use Rattle.calc_model.specs.declared.content.Content.{Content}
 use Rattle.calc_model.specs.declared.edit.Edit.{Edit}
+use Rattle.calc_model.specs.declared.edit.Edit.TheVariants.{Make}
 use Rattle.calc_model.specs.declared.edit.EditCause.{EditCause}
 use Rattle.calc_script.specs.declared.command.Line.{Line}
 use Rattle.calc_script.specs.declared.command.Line.TheVariants.{Nothing, Do, Refused}
@@ -51,17 +53,23 @@ refusal_text number cause = codes "line " ++ decimal number ++ codes " refused: 
 abbrev pub refusal : Session → ℕ → Cause → Answer
 refusal session number cause = record { session = session; text = refusal_text number cause; refused = true }
 
+-- what is written of an edit that gives this book
+abbrev pub edit_text : Edit → Book → List ℕ
+edit_text (Make start rows) book =
+    codes "made " ++ decimal (length book.cells) ++ codes " cells, " ++ decimal (formula_count book) ++ codes " formulas\n"
+edit_text _ book = []
+
 -- an edit that gives a new book, or a cause
 abbrev pub edited : Session → ℕ → Edit → Result Book EditCause → Answer
 edited session number edit (Ok book) =
-    accepted (record { book = book; stale = stale_after session.book edit book session.stale }) []
+    accepted (record { book = book; stale = stale_after session.book edit book session.stale }) (edit_text edit book)
 edited session number edit (Err cause) = refusal session number (causes.Edit cause)
 
 abbrev pub recalculation : Session → List ℕ
 recalculation session = codes "recalculated " ++ decimal (count_in session.book session.stale) ++ codes "\n"
 
 abbrev pub done : Session → ℕ → Command → Answer
-done session number (commands.Edit edit) = edited session number edit (built_step session.book edit)
+done session number (commands.Edit edit) = edited session number edit (step session.book edit)
 done session number commands.Calc = accepted (recalculated session) (recalculation session)
 done session number (commands.Print area) = accepted (recalculated session) (printed_area (shown_texts (val session.book)) area)
 done session number (commands.Formulas area) = accepted session (printed_area (held_texts session.book) area)

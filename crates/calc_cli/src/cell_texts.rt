@@ -1,12 +1,12 @@
 //! The texts of cells that a line prints.
 ghost use Rattle.std.specs.Prelude.{OnOk, ◌++◌, ◌≡◌};
 ghost use Rattle.calc_cli.specs.Records.{held_texts, shown_texts};
-ghost use Rattle.calc_model.specs.Results.{shown_by};
-ghost use Rattle.cell_map.specs.ResultMap.{results_of};
+ghost use Rattle.workbook.specs.Workbook.{values_of};
 
 use calc_addr::{Cell, NoMemory};
-use cell_map::{CellMap, ResultMap, show_cell};
-use formula_printer::print_content;
+use calc_model::{Seen, show};
+use calc_num::Num;
+use workbook::Workbook;
 
 /// A text for each cell.
 pub(crate) trait CellTexts {
@@ -19,34 +19,38 @@ pub(crate) trait CellTexts {
         ensures { OnOk result (out.new.items ≡ out.old.items ++ texts self.now cell) };
 }
 
-/// What cells show, by the results of their formulas.
+/// What the cells of a workbook show.
 #[derive(Clone, Copy)]
 pub(crate) struct Shown<'a> {
-    pub(crate) book: &'a CellMap,
-    pub(crate) results: &'a ResultMap,
+    pub(crate) workbook: &'a Workbook,
 }
 
 impl CellTexts for Shown<'_> {
-    ghost texts = { λ all. shown_texts (shown_by all.book.now (results_of all.results.now)) };
+    ghost texts = { λ all. shown_texts (values_of all.workbook.now) };
 
     fn push(&self, cell: Cell, out: &mut Vec<u8>) -> Result<(), NoMemory> {
-        show_cell(self.book, self.results, cell, out)
+        match self.workbook.value(cell) {
+            Seen::Number(number) => {
+                let number: Num = number;
+                show(Seen::Number(number), out)
+            }
+            Seen::Words(text) => show(Seen::Words(text), out),
+            Seen::Bad(fault) => fault.show(out),
+            Seen::Blank => Ok(()),
+        }
     }
 }
 
-/// What cells hold.
+/// What they hold.
 #[derive(Clone, Copy)]
 pub(crate) struct Held<'a> {
-    pub(crate) book: &'a CellMap,
+    pub(crate) workbook: &'a Workbook,
 }
 
 impl CellTexts for Held<'_> {
-    ghost texts = { λ all. held_texts all.book.now };
+    ghost texts = { λ all. held_texts all.workbook.now.book };
 
     fn push(&self, cell: Cell, out: &mut Vec<u8>) -> Result<(), NoMemory> {
-        match self.book.get(cell) {
-            Some(content) => print_content(content, out),
-            None => Ok(()),
-        }
+        self.workbook.formula(cell, out)
     }
 }

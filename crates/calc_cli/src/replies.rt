@@ -1,7 +1,8 @@
 //! What lines of a script do to a workbook, and what they write.
 ghost use Rattle.std.specs.Prelude.{◌≡◌, IfOk, false, true};
-ghost use Rattle.workbook.specs.BuiltStep.{built_step};
-ghost use Rattle.calc_cli.specs.Output.{accepted, answer, done, edited, recalculated, recalculation, refusal_text};
+ghost use Rattle.calc_model.specs.Step.{is_makeable, step};
+ghost use Rattle.calc_script.specs.Commands.{is_makeable_command, is_makeable_line};
+ghost use Rattle.calc_cli.specs.Output.{accepted, answer, done, edit_text, edited, recalculated, recalculation, refusal_text};
 ghost use Rattle.calc_cli.specs.Records.{held_texts, printed_area, shown_texts};
 ghost use Rattle.calc_cli.specs.Sessions.{Replies, session_of};
 ghost use Rattle.calc_model.specs.Val.{val};
@@ -30,6 +31,7 @@ pub(crate) fn answer_line(
     number: usize,
     line: &Line,
 ) -> Result<Reply, NoMemory>
+    requires { is_makeable_line line.now ≡ true }
     ensures { Replies result (session_of workbook.new)
         (answer (session_of workbook.old) number line.now) }
 {
@@ -46,6 +48,7 @@ fn do_command(
     number: usize,
     command: &Command,
 ) -> Result<Reply, NoMemory>
+    requires { is_makeable_command command.now ≡ true }
     ensures { Replies result (session_of workbook.new)
         (done (session_of workbook.old) number command.now) }
 {
@@ -65,26 +68,41 @@ fn make_edit(
     number: usize,
     edit: &Edit,
 ) -> Result<Reply, NoMemory>
+    requires { is_makeable edit.now ≡ true }
     ensures { Replies result (session_of workbook.new) (edited (session_of workbook.old) number
-        edit.now (built_step (session_of workbook.old).book edit.now)) }
+        edit.now (step (session_of workbook.old).book edit.now)) }
 {
     match workbook.edit(alloc, edit) {
-        Ok(()) => Ok(accept(Vec::new(alloc))),
+        Ok(()) => Ok(accept(edit_text(alloc, workbook, edit)?)),
         Err(EditFault::Refused(cause)) => refuse(alloc, number, Cause::Edit(cause)),
         // A workbook is dead after want of memory alone.
         Err(EditFault::Dead | EditFault::NoMemory) => Err(AllocError),
     }
 }
 
+/// What an edit writes that gave the workbook this book.
+fn edit_text(alloc: Global, workbook: &Workbook, edit: &Edit) -> Result<Vec<u8>, NoMemory>
+    ensures { IfOk result (λ text. text.items ≡ edit_text edit.now workbook.now.book) }
+{
+    let mut text = Vec::new(alloc);
+    if let Edit::Make { .. } = edit {
+        text.extend_from_slice(b"made ")?;
+        text.extend_from_slice(Buffer::new().format(workbook.cell_count()).as_bytes())?;
+        text.extend_from_slice(b" cells, ")?;
+        text.extend_from_slice(Buffer::new().format(workbook.formula_count()).as_bytes())?;
+        text.extend_from_slice(b" formulas\n")?;
+    }
+    Ok(text)
+}
+
 fn recalculate(alloc: Global, workbook: &mut Workbook) -> Result<Reply, NoMemory>
     ensures { Replies result (session_of workbook.new) (accepted
         (recalculated (session_of workbook.old)) (recalculation (session_of workbook.old))) }
 {
-    let count = workbook.stale_count(alloc)?;
-    let _results = workbook.recalculate(alloc)?;
+    let done = workbook.recalculate(alloc)?;
     let mut text = Vec::new(alloc);
     text.extend_from_slice(b"recalculated ")?;
-    text.extend_from_slice(Buffer::new().format(count).as_bytes())?;
+    text.extend_from_slice(Buffer::new().format(done.stale).as_bytes())?;
     text.push(b'\n')?;
     Ok(accept(text))
 }
@@ -94,11 +112,8 @@ fn print_shown(alloc: Global, workbook: &mut Workbook, area: Area) -> Result<Rep
         (recalculated (session_of workbook.old))
         (printed_area (shown_texts (val (session_of workbook.old).book)) area)) }
 {
-    let results = workbook.recalculate(alloc)?;
-    let shown = Shown {
-        book: workbook.cells(),
-        results: &results,
-    };
+    workbook.recalculate(alloc)?;
+    let shown = Shown { workbook };
     Ok(accept(print_area(alloc, &shown, area)?))
 }
 
@@ -106,9 +121,7 @@ fn print_held(alloc: Global, workbook: &Workbook, area: Area) -> Result<Reply, N
     ensures { Replies result (session_of workbook.now) (accepted (session_of workbook.now)
         (printed_area (held_texts (session_of workbook.now).book) area)) }
 {
-    let held = Held {
-        book: workbook.cells(),
-    };
+    let held = Held { workbook };
     Ok(accept(print_area(alloc, &held, area)?))
 }
 

@@ -84,25 +84,58 @@ module _ (field : List ℕ → Content) where
 
   all_can : AllByRecursion IsMakeable (verbs field)
   unfolding set_of clear_of copy_of fill_of insert_of delete_of make_of calc_of print_of formulas_of groups_of blocks_of watch_of told_of unwatch_of
-  all_can =
-      (λ rest. set_can (up_to_space (without_spaces rest)) (behind_space (without_spaces rest)),
-      (λ rest. with_read (λ area. commands.Edit (Clear area)) (λ _. refl) (area_of (words_of rest)),
-      (λ rest. with_read (λ (read : Rectangle × Place). commands.Edit (Copy read.0 read.1)) (λ _. refl) (tested on_one_sheet (two_addresses spelled_area spelled_cell (words_of rest))),
-      (λ rest. with_read (λ (read : Place × Rectangle). commands.Edit (Fill read.0 read.1)) (λ _. refl) (tested of_one_sheet (two_addresses spelled_cell spelled_area (words_of rest))),
-      (λ rest. with_read (λ (read : (ℕ × ℕ) × ℕ). commands.Edit (InsertRows read.0.0 read.0.1 read.1)) (λ _. refl) (rows_of (words_of rest)),
-      (λ rest. with_read (λ (read : (ℕ × ℕ) × ℕ). commands.Edit (DeleteRows read.0.0 read.0.1 read.1)) (λ _. refl) (rows_of (words_of rest)),
-      (λ rest. named (words_of rest),
-      (λ rest. unnamed (words_of rest),
-      (λ rest. sized (words_of rest),
-      (λ rest. bare commands.Calc refl (words_of rest),
-      (λ rest. with_read commands.Print (λ _. refl) (few_cells MOST_PRINTED (area_of (words_of rest))),
-      (λ rest. with_read commands.Formulas (λ _. refl) (few_cells MOST_PRINTED (area_of (words_of rest))),
-      (λ rest. with_read (λ (read : ℕ × ℕ). commands.Groups read.0 read.1) (λ _. refl) (col_of (words_of rest)),
-      (λ rest. with_read (λ (read : ℕ × ℕ). commands.Blocks read.0 read.1) (λ _. refl) (col_of (words_of rest)),
-      (λ rest. with_read commands.Watch (λ _. refl) (few_cells MOST_WATCHED (area_of (words_of rest))),
-      (λ rest. bare commands.Told refl (words_of rest),
-      (λ rest. bare commands.Unwatch refl (words_of rest),
-      tt)))))))))))))))))
+  all_can = (
+    λ rest. set_can (up_to_space (without_spaces rest)) (behind_space (without_spaces rest)),
+    (
+      λ rest. with_read (λ area. commands.Edit (Clear area)) (λ _. refl) (area_of (words_of rest)),
+      (
+        λ rest. with_read (λ (read : Rectangle × Place). commands.Edit (Copy read.0 read.1)) (λ _. refl) (tested on_one_sheet (two_addresses spelled_area spelled_cell (words_of rest))),
+        (
+          λ rest. with_read (λ (read : Place × Rectangle). commands.Edit (Fill read.0 read.1)) (λ _. refl) (tested of_one_sheet (two_addresses spelled_cell spelled_area (words_of rest))),
+          (
+            λ rest. with_read (λ (read : (ℕ × ℕ) × ℕ). commands.Edit (InsertRows read.0.0 read.0.1 read.1)) (λ _. refl) (rows_of (words_of rest)),
+            (
+              λ rest. with_read (λ (read : (ℕ × ℕ) × ℕ). commands.Edit (DeleteRows read.0.0 read.0.1 read.1)) (λ _. refl) (rows_of (words_of rest)),
+              (
+                λ rest. named (words_of rest),
+                (
+                  λ rest. unnamed (words_of rest),
+                  (
+                    λ rest. sized (words_of rest),
+                    (
+                      λ rest. bare commands.Calc refl (words_of rest),
+                      (
+                        λ rest. with_read commands.Print (λ _. refl) (few_cells MOST_PRINTED (area_of (words_of rest))),
+                        (
+                          λ rest. with_read commands.Formulas (λ _. refl) (few_cells MOST_PRINTED (area_of (words_of rest))),
+                          (
+                            λ rest. with_read (λ (read : ℕ × ℕ). commands.Groups read.0 read.1) (λ _. refl) (col_of (words_of rest)),
+                            (
+                              λ rest. with_read (λ (read : ℕ × ℕ). commands.Blocks read.0 read.1) (λ _. refl) (col_of (words_of rest)),
+                              (
+                                λ rest. with_read commands.Watch (λ _. refl) (few_cells MOST_WATCHED (area_of (words_of rest))),
+                                (
+                                  λ rest. bare commands.Told refl (words_of rest),
+                                  (
+                                    λ rest. bare commands.Unwatch refl (words_of rest),
+                                    tt,
+                                  ),
+                                ),
+                              ),
+                            ),
+                          ),
+                        ),
+                      ),
+                    ),
+                  ),
+                ),
+              ),
+            ),
+          ),
+        ),
+      ),
+    ),
+  )
 
   of_command : (name rest : List ℕ) → is_makeable_line (command_of field name rest) ≡ true
   unfolding command_of

@@ -1,8 +1,9 @@
 use Rattle.std.proofs.Common.{◌≡◌, ◌++◌, ℕ, List}
 use Rattle.std.specs.List.{flat_map}
 use Rattle.calc_addr.specs.Places.{Rectangle, rows_of}
-use Rattle.calc_cli.specs.Records.{row_texts, record_text}
-use Rattle.calc_cli.specs.Writers.{Holds}
+use Rattle.csv_records.specs.Records.{record_text}
+use Rattle.calc_cli.specs.Records.{row_texts}
+use Rattle.csv_records.specs.Writers.{Holds}
 use Rattle.calc_cli.proofs.records.print_area.Given as goal
 
 -- the records so far, and those of the rows that are left
