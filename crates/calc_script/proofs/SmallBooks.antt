@@ -1,5 +1,5 @@
 -- The book that a line makes is no greater than such a book may be.
-use Rattle.std.proofs.Common.{◌≡◌, ℕ, Bool, true, false, cond, nat_le, List, [], ◌∷◌, length, refl}
+use Rattle.std.proofs.Common.{◌≡◌, ℕ, true, false, cond, nat_le, List, [], ◌∷◌, length, refl}
 use Rattle.std.specs.Prelude.{Result, Ok, Err, ◌==◌}
 use Rattle.std.specs.List.{AllByRecursion}
 use Rattle.std.specs.Str.{bytes_eq, is_utf8}
@@ -17,7 +17,7 @@ use Rattle.calc_script.specs.declared.command.Cause.{Cause}
 use Rattle.calc_script.specs.declared.command.Cause.TheVariants.{BadCommand}
 use Rattle.calc_script.specs.declared.command.Command.{Command}
 use Rattle.calc_script.specs.declared.command.Command.TheVariants as commands
-use Rattle.calc_script.specs.Commands.{MakesSmallBooks, address_of, area_for, area_of, bare_line, blocks_of, calc_of, clear_of, col_of, command_of, copy_of, delete_of, few_cells, fill_of, formulas_of, groups_of, insert_of, is_makeable_command, is_makeable_line, line_of, line_with, make_of, name_line, name_of, named_line, no_more, of_one_sheet, on_one_sheet, print_of, rows_of, set_line, set_of, sizes_of, start_of, tested, text_line, told_of, two_addresses, unname_line, unname_of, unwatch_of, verbs, watch_of, within_limits}
+use Rattle.calc_script.specs.Commands.{MakesSmallBooks, address_of, area_for, area_of, bare_line, blocks_of, calc_of, clear_of, col_of, command_of, copy_of, delete_of, few_cells, fill_of, formulas_of, groups_of, insert_of, is_makeable_command, is_makeable_line, line_with, make_of, name_line, named_line, no_more, of_one_sheet, on_one_sheet, print_of, rows_of, set_line, set_of, sizes_of, start_of, tested, text_line, told_of, two_addresses, unname_line, unwatch_of, verbs, watch_of, within_limits}
 use Rattle.calc_script.specs.Words.{behind_space, is_idle, up_to_space, without_return, without_spaces, words_of}
 
 -- a line whose command can be made of whatever is read for it

@@ -1,6 +1,6 @@
 -- A table of codes that is empty but for the one that is run.
-use Rattle.std.proofs.Common.{◌≡◌, ℕ, suc, ◌+◌, ◌<◌, ◌^◌, lit<, List, [], ◌∷◌, Option, Some, None, true, ap, sym, subst, refl, ◌∙◌, cond, arith}
-use Rattle.std.specs.Prelude.{IsSome, is_some, count_by}
+use Rattle.std.proofs.Common.{◌≡◌, ℕ, suc, ◌+◌, ◌<◌, ◌^◌, lit<, [], ◌∷◌, Option, None, ap, sym, subst, refl, ◌∙◌, cond, arith}
+use Rattle.std.specs.Prelude.{is_some}
 use Rattle.std.specs.Option.{option_map_or}
 use Rattle.std.proofs.lemmas.List.Sums.{sum_by-cons}
 use Rattle.formula_code.specs.Codes.{Code, Codes, HasRoom, live_count}

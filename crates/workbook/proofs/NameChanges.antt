@@ -1,6 +1,6 @@
 -- What edits of names leave: the formulas that don't use the name read what they read. And what a set of names has with
 -- one more.
-use Rattle.std.proofs.Common.{◌≡◌, ◌≤◌, ◌+◌, ℕ, Bool, true, false, not, ◌||◌, ◌&&◌, cond, nat_le, List, [], ◌∷◌, length, map, refl, sym, ap, subst, ◌∙◌, arith}
+use Rattle.std.proofs.Common.{◌≡◌, ℕ, Bool, true, false, ◌||◌, ◌&&◌, List, [], ◌∷◌, map, refl, sym, ap, subst, ◌∙◌}
 use Rattle.std.specs.List.{list_any}
 use Rattle.std.specs.Ordering.{eq_by_cmp, is_eq, match_ordering}
 use Rattle.std.specs.declared.cmp.Ordering.TheVariants.{Less, Equal, Greater}
@@ -11,16 +11,16 @@ use Rattle.calc_model.specs.declared.content.Content.{Content}
 use Rattle.calc_model.specs.declared.content.Content.TheVariants.{Empty, Constant, Formula, Raw}
 use Rattle.calc_model.specs.declared.edit.Edit.TheVariants.{Make, Name, Unname}
 use Rattle.calc_model.specs.declared.tree.Tree.{Tree}
-use Rattle.calc_model.specs.Books.{Book, NameEntries, area_named, content_at, entry_named, is_formula}
+use Rattle.calc_model.specs.Books.{NameEntries, area_named, content_at, entry_named, is_formula}
 use Rattle.calc_model.specs.NamedAreas.{name_cmp, with_name, without_name}
 use Rattle.calc_model.specs.Reads.{areas, reads}
 use Rattle.calc_model.specs.Stale.{Reaches, is_formula_cell, reaches}
-use Rattle.calc_model.specs.Touched.{CellSet, moved, users}
+use Rattle.calc_model.specs.Touched.{CellSet, users}
 use Rattle.calc_model.specs.UsedNames.{is_same_name, names_in, uses_name}
 use Rattle.calc_model.proofs.NamedReads.{exact_names, named_reads, unnamed_reads}
 use Rattle.calc_model.proofs.Reached.{or_true, reaches_at_all}
 use Rattle.plain_evaluator.proofs.Covered.{same_tests}
-use Rattle.workbook.specs.Touched.{Parts, has_name, is_touched, lies_in, uses_any}
+use Rattle.workbook.specs.Touched.{has_name, is_touched, lies_in, uses_any}
 use Rattle.workbook.specs.Workbook.{Stales, State, stale_of}
 use Rattle.workbook.proofs.RowChanges.{reads_by_names}
 use Rattle.workbook.proofs.Sets.{list_any-or}

@@ -16,7 +16,6 @@ use Rattle.calc_model.specs.declared.edit.Edit.TheVariants.{Set, Clear, Copy, Fi
 use Rattle.calc_model.specs.declared.edit.EditCause.TheVariants.{OffSheet, BadName, NoName, NamesFull, RowsFull, CellsFull}
 use Rattle.calc_model.specs.Books.{Book, NameEntries, content_at, with_content}
 use Rattle.calc_model.specs.CellEdits.{CellEntries, after_copy, after_fill, area_at, without_area}
-use Rattle.calc_model.specs.Changes.{IsShift}
 use Rattle.calc_model.specs.NamedAreas.{is_defined, name_cmp, names_after_deletion, names_after_insertion, with_name, without_name}
 use Rattle.calc_model.specs.RowEdits.{are_rows, cells_after_deletion, cells_after_insertion, is_pushed_out}
 use Rattle.std.proofs.lemmas.Bool.Decides.{nat_tests}

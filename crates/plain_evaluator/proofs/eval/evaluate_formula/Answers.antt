@@ -1,4 +1,4 @@
-use Rattle.std.proofs.Common.{◌≡◌, ap, subst, sym, ◌∙◌, arith}
+use Rattle.std.proofs.Common.{◌≡◌, subst, ◌∙◌}
 use Rattle.std.specs.Prelude.{IfOk}
 use Rattle.calc_model.specs.Books.{area_named}
 use Rattle.calc_model.specs.Eval.{eval, top}

@@ -1,7 +1,6 @@
-use Rattle.std.proofs.Common.{◌≡◌, ◌||◌, Bool, true, false, List, [], drop, refl, sym, ap, ◌∙◌}
+use Rattle.std.proofs.Common.{◌≡◌, ◌||◌, Bool, true, false, List, [], refl, sym, ap, ◌∙◌}
 use Rattle.std.specs.List.{list_any}
 use Rattle.std.proofs.lemmas.List.{drop_all}
-use Rattle.calc_addr.specs.Places.{Place}
 use Rattle.calc_model.specs.Books.{content_at}
 use Rattle.plain_evaluator.proofs.Formulas.{Reading}
 use Rattle.workbook.specs.Readers.{is_user_at}

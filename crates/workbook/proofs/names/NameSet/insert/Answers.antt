@@ -1,4 +1,4 @@
-use Rattle.std.proofs.Common.{◌≡◌, ◌||◌, ℕ, List, map, ap, ◌∙◌}
+use Rattle.std.proofs.Common.{◌||◌, ℕ, List, map, ap, ◌∙◌}
 use Rattle.std.specs.Prelude.{string_bytes}
 use Rattle.std.specs.Str.{str_to_ascii_uppercase}
 use Rattle.calc_model.specs.UsedNames.{is_same_name}

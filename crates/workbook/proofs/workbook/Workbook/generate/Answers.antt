@@ -1,4 +1,4 @@
-use Rattle.std.proofs.Common.{◌≡◌, ap, refl, subst, sym}
+use Rattle.std.proofs.Common.{ap, refl, subst, sym}
 use Rattle.std.specs.Prelude.{Ok}
 use Rattle.calc_model.specs.declared.edit.Edit.TheVariants.{Make}
 use Rattle.workbook.specs.Workbook.{Made, State}
