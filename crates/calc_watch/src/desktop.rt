@@ -10,30 +10,48 @@ use crate::watcher::Watcher;
 use calc_addr::{Area, NoMemory};
 use calc_model::{Value, Values};
 use std::alloc::Global;
+use std::marker::Model;
 
 /// The most cells of an area that is watched.
 pub const MOST_WATCHED: u64 = 4_096;
 
 /// A watcher of an area, with the values of the area's cells that it last knew, in area order.
-/// Contracts see of it the area, these values, and what the watcher was told.
 #[derive(Drop)]
-pub struct Watch {
-    pub watcher: Box<dyn Watcher>,
-    pub area: Area,
-    pub known: Vec<Value>,
+struct Watch<W: Watcher> {
+    watcher: W,
+    area: Area,
+    known: Vec<Value>,
 }
 
-/// The watchers that are attached, in the order of attaching.
+impl<W: Watcher> Model for Watch<W> {
+    ghost use Rattle.calc_watch.specs.Reports.{Watched, watched};
+
+    ghost Value = { Watched };
+
+    ghost view = { λ w. watched w.area w.known.items (W.told w.watcher) };
+}
+
+/// The watchers that are attached, in the order of attaching. Contracts see of each its area, the values
+/// that it knows, and all that it was told.
 #[derive(Drop)]
-pub struct Desktop {
+pub struct Desktop<W: Watcher> {
     alloc: Global,
-    pub watches: Vec<Watch>,
+    watches: Vec<Watch<W>>,
 }
 
-impl Desktop {
+impl<W: Watcher> Model for Desktop<W> {
+    ghost use Rattle.std.specs.Prelude.{List};
+    ghost use Rattle.calc_watch.specs.Reports.{Watched};
+
+    ghost Value = { List Watched };
+
+    ghost view = { λ d. d.watches.items };
+}
+
+impl<W: Watcher> Desktop<W> {
     /// No watcher.
-    pub fn new(alloc: Global) -> Desktop
-        ensures { result.watches.items ≡ [] }
+    pub fn new(alloc: Global) -> Desktop<W>
+        ensures { result ≡ [] }
     {
         Desktop {
             alloc,
@@ -43,7 +61,7 @@ impl Desktop {
 
     /// How many watchers are attached.
     pub fn count(&self) -> usize
-        ensures { result ≡ length self.now.watches.items }
+        ensures { result ≡ length self.now }
     {
         self.watches.len()
     }
@@ -52,20 +70,14 @@ impl Desktop {
     /// is refused, the watcher is dropped. Linear in the area's cells.
     pub fn attach<V: Values>(
         &mut self,
-        watcher: Box<dyn Watcher>,
+        watcher: W,
         area: Area,
         values: &V,
     ) -> Result<(), NoMemory>
         requires { cell_count area ≤ MOST_WATCHED }
-        ensures ok { OnOk result (
-            map (λ w. watched w.area w.known.items
-            ((⟦<dyn Watcher as Watcher>⟧ w.watcher.vtable).told w.watcher.value))
-            self.new.watches.items
-            ≡ map (λ w. watched w.area w.known.items
-            ((⟦<dyn Watcher as Watcher>⟧ w.watcher.vtable).told w.watcher.value))
-            self.old.watches.items
-            ++ watched area (values_in (V.values values.now) area) (told watcher) ∷ []) }
-        ensures err { OnErr result (self.new.watches.items ≡ self.old.watches.items) }
+        ensures ok { OnOk result (self.new ≡ self.old
+            ++ watched area (values_in (V.values values.now) area) (W.told watcher) ∷ []) }
+        ensures err { OnErr result (self.new ≡ self.old) }
     {
         let known = values_in(self.alloc, values, area)?;
         self.watches.push(Watch {
@@ -79,21 +91,8 @@ impl Desktop {
     /// Tells each watcher, in the order of attaching, of each cell of its area whose value differs
     /// from the one that it knows. Linear in the cells of the areas.
     pub fn tell_all<V: Values>(&mut self, values: &V) -> Result<(), NoMemory>
-        ensures ok { OnOk result (
-            map (λ w. watched w.area w.known.items
-            ((⟦<dyn Watcher as Watcher>⟧ w.watcher.vtable).told w.watcher.value))
-            self.new.watches.items
-            ≡ map (λ w. told_all (V.values values.now) (
-            watched w.area w.known.items
-            ((⟦<dyn Watcher as Watcher>⟧ w.watcher.vtable).told w.watcher.value)))
-            self.old.watches.items) }
-        ensures err { OnErr result (IsToldInPart (V.values values.now)
-            (map (λ w. watched w.area w.known.items
-            ((⟦<dyn Watcher as Watcher>⟧ w.watcher.vtable).told w.watcher.value))
-            self.old.watches.items)
-            (map (λ w. watched w.area w.known.items
-            ((⟦<dyn Watcher as Watcher>⟧ w.watcher.vtable).told w.watcher.value))
-            self.new.watches.items)) }
+        ensures ok { OnOk result (self.new ≡ map (told_all (V.values values.now)) self.old) }
+        ensures err { OnErr result (IsToldInPart (V.values values.now) self.old self.new) }
     {
         for watch in self.watches.iter_mut() {
             tell(self.alloc, watch, values)?;
@@ -103,43 +102,35 @@ impl Desktop {
 
     /// Appends what the watchers were told, in the order of attaching.
     pub fn describe_all(&self, out: &mut Vec<u8>) -> Result<(), NoMemory>
-        ensures ok { OnOk result (out.new.items ≡ out.old.items
-            ++ flat_map (λ w. described
-            ((⟦<dyn Watcher as Watcher>⟧ w.watcher.vtable).told w.watcher.value))
-            self.now.watches.items) }
+        ensures ok { OnOk result
+            (out.new.items ≡ out.old.items ++ flat_map (λ w. described w.told) self.now) }
         ensures err { OnErr result (out.new.items ≡ out.old.items) }
     {
         let mut lines = Vec::new(self.alloc);
         for watch in &self.watches {
-            describe(&watch.watcher, &mut lines)?;
+            describe(watch, &mut lines)?;
         }
         out.extend_from_slice(&lines)
     }
 
     /// Drops the watcher that was attached last. False where none is attached.
     pub fn detach(&mut self) -> bool
-        ensures found { result ≡ nat_lt 0 (length self.old.watches.items) }
-        ensures left { self.new.watches.items
-            ≡ take (length self.old.watches.items - 1) self.old.watches.items }
+        ensures found { result ≡ nat_lt 0 (length self.old) }
+        ensures left { self.new ≡ take (length self.old - 1) self.old }
     {
         self.watches.pop().is_some()
     }
 }
 
 /// Tells a watcher of each cell of its area whose value differs from the one that it knows.
-fn tell<V: Values>(alloc: Global, watch: &mut Watch, values: &V) -> Result<(), NoMemory>
-    ensures ok { OnOk result (
-        watched watch.new.area watch.new.known.items
-        ((⟦<dyn Watcher as Watcher>⟧ watch.new.watcher.vtable).told watch.new.watcher.value)
-        ≡ told_all (V.values values.now) (
-        watched watch.old.area watch.old.known.items
-        ((⟦<dyn Watcher as Watcher>⟧ watch.old.watcher.vtable).told watch.old.watcher.value))) }
-    ensures err { OnErr result ((n : ℕ) × (
-        watched watch.new.area watch.new.known.items
-        ((⟦<dyn Watcher as Watcher>⟧ watch.new.watcher.vtable).told watch.new.watcher.value)
-        ≡ told_first (V.values values.now) n (
-        watched watch.old.area watch.old.known.items
-        ((⟦<dyn Watcher as Watcher>⟧ watch.old.watcher.vtable).told watch.old.watcher.value)))) }
+fn tell<W: Watcher, V: Values>(
+    alloc: Global,
+    watch: &mut Watch<W>,
+    values: &V,
+) -> Result<(), NoMemory>
+    ensures ok { OnOk result (watch.new ≡ told_all (V.values values.now) watch.old) }
+    ensures err { OnErr result
+        ((n : ℕ) × (watch.new ≡ told_first (V.values values.now) n watch.old)) }
 {
     let reports = changes(alloc, values, watch.area, &watch.known)?;
     let known = values_in(alloc, values, watch.area)?;
@@ -149,26 +140,19 @@ fn tell<V: Values>(alloc: Global, watch: &mut Watch, values: &V) -> Result<(), N
 }
 
 /// Tells a watcher the reports, one after the other.
-fn tell_reports(watcher: &mut Box<dyn Watcher>, reports: &[Report]) -> Result<(), NoMemory>
-    ensures ok { OnOk result (told watcher.new ≡ told watcher.old ++ reports.now) }
+fn tell_reports<W: Watcher>(watcher: &mut W, reports: &[Report]) -> Result<(), NoMemory>
+    ensures ok { OnOk result (W.told watcher.new ≡ W.told watcher.old ++ reports.now) }
     ensures err { OnErr result ((n : ℕ)
-        × (told watcher.new ≡ told watcher.old ++ take n reports.now)) }
+        × (W.told watcher.new ≡ W.told watcher.old ++ take n reports.now)) }
 {
     for report in reports {
-        tell_one(watcher, report)?;
+        watcher.tell(report)?;
     }
     Ok(())
 }
 
-fn tell_one(watcher: &mut Box<dyn Watcher>, report: &Report) -> Result<(), NoMemory>
-    ensures ok { OnOk result (told watcher.new ≡ told watcher.old ++ report.now ∷ []) }
-    ensures err { OnErr result (told watcher.new ≡ told watcher.old) }
+fn describe<W: Watcher>(watch: &Watch<W>, out: &mut Vec<u8>) -> Result<(), NoMemory>
+    ensures { OnOk result (out.new.items ≡ out.old.items ++ described watch.now.told) }
 {
-    watcher.tell(report)
-}
-
-fn describe(watcher: &Box<dyn Watcher>, out: &mut Vec<u8>) -> Result<(), NoMemory>
-    ensures { OnOk result (out.new.items ≡ out.old.items ++ described (told watcher.now)) }
-{
-    watcher.describe(out)
+    watch.watcher.describe(out)
 }

@@ -8,7 +8,7 @@ mod pad;
 mod report;
 mod watcher;
 
-pub use desktop::{Desktop, MOST_WATCHED, Watch};
+pub use desktop::{Desktop, MOST_WATCHED};
 pub use laws::values_are_told_apart;
 pub use pad::Pad;
 pub use report::Report;

@@ -3,4 +3,4 @@ use Rattle.std.proofs.Common.{◌≡◌, ◌++◌, take}
 use Rattle.calc_watch.proofs.desktop.tell_reports.Given as goal
 
 abbrev pub invariant-loop-report : goal.invariant-loop-report
-invariant-loop-report g l = (goal.Watcher-dyn g (l.watcher.vtable, l.watcher.value)).told l.watcher.value ≡ (goal.Watcher-dyn g (l.fn.watcher.vtable, l.fn.watcher.value)).told l.fn.watcher.value ++ take l.report-index l.reports
+invariant-loop-report g l = g.W.Watcher.told l.watcher ≡ g.W.Watcher.told l.fn.watcher ++ take l.report-index l.reports

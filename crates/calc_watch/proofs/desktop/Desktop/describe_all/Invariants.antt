@@ -5,5 +5,4 @@ use Rattle.calc_watch.specs.Reports.{described}
 use Rattle.calc_watch.proofs.desktop.Desktop.describe_all.Given as goal
 
 abbrev pub invariant-loop-watch : goal.invariant-loop-watch
-invariant-loop-watch g l =
-    l.lines.items ≡ flat_map (λ w. described ((goal.Watcher-dyn g (w.watcher.vtable, w.watcher.value)).told w.watcher.value)) (take l.watch-index l.watch-items)
+invariant-loop-watch g l = l.lines.items ≡ flat_map (λ w. described w.told) (take l.watch-index l.watch-items)
