@@ -23,7 +23,7 @@ fn main(rt: HostRuntime) -> ExitCode {
         Ok(words) => {
             let mut desk = PipeDesk::new(&rt, rt.reader());
             let mut sink = PipeSink::new(io::writer(&rt));
-            run(rt.alloc(), &words, &mut desk, &mut sink)
+            run(&rt, rt.alloc(), &words, &mut desk, &mut sink)
         }
         Err(error) if error.kind() == ErrorKind::OutOfMemory => NO_MEMORY,
         Err(_) => BAD_WORDS,

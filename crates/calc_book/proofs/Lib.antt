@@ -1,3 +1,8 @@
--- Parts (the bytes and the number of a book's fields), Commas (the first field of a record).
-pub mod Commas
-pub mod Parts
+-- FieldsLeft (the fields behind a place of a record), CsvRecords (what csv's reader has left)
+mod BookExamples
+pub mod FieldsLeft
+pub mod CsvRecords
+pub mod AllRead
+pub mod NoFault
+pub mod Counted
+pub mod ReadRows

@@ -1,2 +1,4 @@
-pub mod BookForm
-pub mod FieldsLeft
+pub mod BookCells
+pub mod Causes
+pub mod Loads
+pub mod Placed

@@ -1,10 +1,13 @@
 //! A book's bytes in, its cells out.
 #![tactic(auto)]
 
+mod cause;
+mod contents;
+mod filled;
 mod limits;
-mod load;
-mod plain;
-mod splitting;
+mod loading;
+mod rows;
 
-pub use limits::{COMMA, MOST_BYTES, MOST_FIELDS};
-pub use load::{BookFault, read_book};
+pub use cause::{BookCause, BookFault, push_cause};
+pub use limits::MOST_BYTES;
+pub use loading::load;

@@ -1,21 +1,20 @@
 -- How the inputs lead to the end of a run.
-use Rattle.std.proofs.Common.{[], ◌≡◌, ℕ, ◌+◌, ◌≤◌, ◌<◌, Bool, true, false, not, ◌&&◌, cond, List, length, take, drop, Option, None, Some, refl, sym, ap, subst, ◌∙◌, append-nil, arith, nat_lt, nat_le, ◌⊎◌, inl, inr}
+use Rattle.std.proofs.Common.{[], ◌≡◌, ℕ, ◌+◌, ◌≤◌, ◌<◌, Bool, true, false, not, cond, List, length, take, drop, Option, None, Some, Result, Ok, Err, refl, sym, ap, subst, ◌∙◌, append-nil, arith, nat_lt, nat_le, ◌⊎◌, inl, inr}
 use Rattle.std.specs.Io.KnownBytes.{Appends}
 use Rattle.std.proofs.KnownBytes.{Appends-nil}
 use Rattle.std.proofs.lemmas.List.{drop_all}
-use Rattle.std.proofs.lemmas.Bool.{lt-leb, ltb-true, both_ways, leb-true}
+use Rattle.std.proofs.lemmas.Bool.{lt-ltb, ltb-true}
 use Rattle.std.proofs.lemmas.Bool.Decides.{leb_tells, nat_tests}
-use Rattle.std.specs.List.{list_all}
-use Rattle.byte_cuts.specs.Lines.{lines_of}
 use Rattle.calc_model.specs.Books.{Book}
 use Rattle.formula_reader.specs.Fields.{field_of}
 use Rattle.formula_reader.proofs.Meaning.{field_reads}
 use Rattle.calc_book.specs.declared.limits.TheConstants.{MOST_BYTES}
-use Rattle.calc_book.specs.BookForm.{book_read, is_plain_book, is_plain_byte, is_plain_record}
-use Rattle.calc_book.proofs.Parts.{first_of}
+use Rattle.calc_book.specs.declared.cause.BookCause.{BookCause}
+use Rattle.calc_book.specs.declared.cause.BookCause.TheVariants.{TooLarge}
+use Rattle.calc_book.specs.BookCells.{book_fault, book_read, records_fault, records_in}
 use Rattle.calc_cli.specs.declared.limits.TheConstants.{MOST_SCRIPT_BYTES}
-use Rattle.calc_cli.specs.declared.status.TheConstants.{DESK_FAILED, DONE, LINE_REFUSED, SCRIPT_TOO_LONG}
-use Rattle.calc_cli.specs.Ending.{Ending, answered, ending, calculated, not_built, too_long}
+use Rattle.calc_cli.specs.declared.status.TheConstants.{BOOK_REFUSED, DESK_FAILED, DONE, LINE_REFUSED, NO_MEMORY, SCRIPT_TOO_LONG}
+use Rattle.calc_cli.specs.Ending.{Ending, answered, book_refused, calculated, ending, ending_by, too_long}
 use Rattle.calc_cli.specs.Output.{Session, has_refusal, output}
 use Rattle.calc_cli.specs.Inputs.{IsLoaded}
 use Rattle.calc_io.specs.Desk.{Books}
@@ -32,52 +31,51 @@ too_long_ends old = record {
   nothing = λ _. Appends-nil old;
 }
 
--- the end by the tests of the book and of the script
-abbrev by_tests : List ℕ → List ℕ → Bool → Bool → Ending
-by_tests book script plain long = cond (not plain) not_built (cond long too_long (calculated field_of (book_read field_of book) script))
+pub ends_refused : (book script : List ℕ) (cause : BookCause) → book_fault book ≡ Some cause → book_refused cause ≡ ending field_of book script
+ends_refused book script cause bad = ap (λ fault. ending_by field_of fault book script) (sym bad)
 
-pub ends_not_built : (book script : List ℕ) → is_plain_book book ≡ false → not_built ≡ ending field_of book script
-ends_not_built book script bad = ap (λ b. by_tests book script b (nat_lt MOST_SCRIPT_BYTES (length script))) (sym bad)
+-- the end over a book that isn't refused, by the test of the script
+abbrev by_size_of_script : List ℕ → List ℕ → Bool → Ending
+by_size_of_script book script long = cond long too_long (calculated field_of (book_read field_of book) script)
 
-pub ends_too_long : (book script : List ℕ) → is_plain_book book ≡ true → nat_lt MOST_SCRIPT_BYTES (length script) ≡ true → too_long ≡ ending field_of book script
+pub ends_too_long : (book script : List ℕ) → book_fault book ≡ None → nat_lt MOST_SCRIPT_BYTES (length script) ≡ true → too_long ≡ ending field_of book script
 ends_too_long book script good long =
-    ap (by_tests book script true) (sym long)
-    ∙ ap (λ b. by_tests book script b (nat_lt MOST_SCRIPT_BYTES (length script))) (sym good)
+    ap (by_size_of_script book script) (sym long) ∙ ap (λ fault. ending_by field_of fault book script) (sym good)
 
-pub ends_answered : (book script taken : List ℕ) (loaded : Book) → is_plain_book book ≡ true → nat_lt MOST_SCRIPT_BYTES (length script) ≡ false → loaded ≡ book_read field_of book → taken ≡ script → calculated field_of loaded taken ≡ ending field_of book script
+pub ends_answered : (book script taken : List ℕ) (loaded : Book) → book_fault book ≡ None → nat_lt MOST_SCRIPT_BYTES (length script) ≡ false → loaded ≡ book_read field_of book → taken ≡ script → calculated field_of loaded taken ≡ ending field_of book script
 ends_answered book script taken loaded good short loaded_is taken_is =
     ap (λ b. calculated field_of b taken) loaded_is
     ∙ ap (calculated field_of (book_read field_of book)) taken_is
-    ∙ ap (by_tests book script true) (sym short)
-    ∙ ap (λ b. by_tests book script b (nat_lt MOST_SCRIPT_BYTES (length script))) (sym good)
+    ∙ ap (by_size_of_script book script) (sym short)
+    ∙ ap (λ fault. ending_by field_of fault book script) (sym good)
 
--- the bytes taken of a book, up to one more than it may have, tell whether it can be read
-too_big : (book : List ℕ) → MOST_BYTES < length book → is_plain_book book ≡ false
-too_big book more = ap (λ few. few && list_all is_plain_byte book && list_all is_plain_record (lines_of book)) (lt-leb (length book) MOST_BYTES more)
+-- the bytes taken of a book, up to one more than it may have, tell whether it is refused
+too_big : (book : List ℕ) → MOST_BYTES < length book → book_fault book ≡ Some TooLarge
+unfolding book_fault
+too_big book more = ap (λ long. cond long (Some TooLarge) (records_fault (records_in book))) (lt-ltb MOST_BYTES (length book) more)
 
-big_loaded : (loaded : Option Book) (book taken : List ℕ) → is_plain_book taken ≡ false → is_plain_book book ≡ false → IsLoaded loaded taken → IsLoaded loaded book
-big_loaded None book taken small big is = big
-big_loaded (Some loaded) book taken small big is = absurd (both_ways (is_plain_book taken) small is.0)
+big_loaded : (loaded : Result Book BookCause) (book taken : List ℕ) → book_fault taken ≡ Some TooLarge → book_fault book ≡ Some TooLarge → IsLoaded loaded taken → IsLoaded loaded book
+big_loaded (Err cause) book taken small big is = big ∙ sym small ∙ is
+big_loaded (Ok loaded) book taken small big is = cc (small, is.0)
 
-by_size : (loaded : Option Book) (book taken : List ℕ) → taken ≡ take (MOST_BYTES + 1) book → ((nat_le (length taken) MOST_BYTES ≡ true) × (length taken ≤ MOST_BYTES)) ⊎ ((nat_le (length taken) MOST_BYTES ≡ false) × (MOST_BYTES < length taken)) → IsLoaded loaded taken → IsLoaded loaded book
+by_size : (loaded : Result Book BookCause) (book taken : List ℕ) → taken ≡ take (MOST_BYTES + 1) book → ((nat_le (length taken) MOST_BYTES ≡ true) × (length taken ≤ MOST_BYTES)) ⊎ ((nat_le (length taken) MOST_BYTES ≡ false) × (MOST_BYTES < length taken)) → IsLoaded loaded taken → IsLoaded loaded book
 by_size loaded book taken taken_is (inl (t, few)) is = subst (IsLoaded loaded) (whole MOST_BYTES taken book taken_is few) is
 by_size loaded book taken taken_is (inr (t, more)) is =
     big_loaded loaded book taken (too_big taken more) (too_big book (ltb-true MOST_BYTES (length book) (longer MOST_BYTES taken book taken_is more))) is
 
-pub loaded_whole : (loaded : Option Book) (book taken : List ℕ) → taken ≡ take (MOST_BYTES + 1) book → IsLoaded loaded taken → IsLoaded loaded book
+pub loaded_whole : (loaded : Result Book BookCause) (book taken : List ℕ) → taken ≡ take (MOST_BYTES + 1) book → IsLoaded loaded taken → IsLoaded loaded book
 loaded_whole loaded book taken taken_is is = by_size loaded book taken taken_is (leb_tells (length taken) MOST_BYTES) is
 
 -- an input within its limit has no byte behind it
-
 not_beyond : (most n : ℕ) → nat_lt most n ≡ false → n ≤ most
 not_beyond most n h = grind (arith, nat_tests)
 
-pub book_ends : (book : List ℕ) → is_plain_book book ≡ true → drop (MOST_BYTES + 1) book ≡ []
-book_ends book plain =
-    drop_all (MOST_BYTES + 1) book (omega (
-      arith,
-      leb-true (length book) MOST_BYTES (first_of (nat_le (length book) MOST_BYTES) (list_all is_plain_byte book) (first_of (nat_le (length book) MOST_BYTES && list_all is_plain_byte book) (list_all is_plain_record (lines_of book)) plain)),
-    ))
+pub book_ends : (book : List ℕ) → book_fault book ≡ None → drop (MOST_BYTES + 1) book ≡ []
+book_ends book good =
+    elim (leb_tells (length book) MOST_BYTES) [
+      | inl (t, few) ↦ drop_all (MOST_BYTES + 1) book (omega (arith, few))
+      | inr (t, more) ↦ cc (too_big book more, good)
+    ]
 
 pub script_ends : (script : List ℕ) → nat_lt MOST_SCRIPT_BYTES (length script) ≡ false → drop (MOST_SCRIPT_BYTES + 1) script ≡ []
 script_ends script short = drop_all (MOST_SCRIPT_BYTES + 1) script (omega (arith, not_beyond MOST_SCRIPT_BYTES (length script) short))
@@ -102,6 +100,27 @@ answered_ends status refused session lines old new status_is low refused_is writ
   all = λ _. written;
   prefix = (output field_of session 1 lines, [], sym (append-nil (output field_of session 1 lines)), written);
   nothing = λ desk. absurd (omega arith);
+}
+
+-- the refusal of a book was written
+pub refusal_ends : (cause : BookCause) (text : List ℕ) (old new : Option (List ℕ)) → text ≡ (book_refused cause).written → Appends old new text → Ends BOOK_REFUSED old new (book_refused cause)
+unfolding book_refused
+refusal_ends cause text old new text_is written =
+    let all = subst (Appends old new) text_is written in
+    record {
+      done = λ _. refl;
+      all = λ _. all;
+      prefix = ((book_refused cause).written, [], sym (append-nil (book_refused cause).written), all);
+      nothing = λ desk. absurd (omega arith);
+    }
+
+-- where memory was wanting before a run wrote, it ended as any run may
+pub memory_wanting : (old : Option (List ℕ)) (end : Ending) → Ends NO_MEMORY old old end
+memory_wanting old end = record {
+  done = λ calm. absurd (calm.memory refl);
+  all = λ calm. absurd (calm.memory refl);
+  prefix = ([], end.written, refl, Appends-nil old);
+  nothing = λ _. Appends-nil old;
 }
 
 -- where a run was disturbed before it wrote, it ended as for any book and script

@@ -3,6 +3,7 @@
 pub mod Joining
 pub mod Loaded
 pub mod Ended
+pub mod FewLines
 pub mod TakenBytes
 pub mod Pieces
 pub mod Progress

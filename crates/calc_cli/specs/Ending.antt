@@ -1,12 +1,13 @@
--- How a run ends, by its book and its script. A book that can't be read so far is refused, and the script
--- isn't looked at. A script that is too long isn't taken. Otherwise the script's lines are answered one after
+-- How a run ends, by its book and its script. A book may be refused, and then the script isn't looked at. A script that is too long isn't taken. Otherwise the script's lines are answered one after
 -- the other over the book's cells, and the status says whether a line was refused. What a field holds is
 -- given: `field` says it of each text.
-use Rattle.std.specs.Prelude.{ℕ, not, nat_lt, List, [], length, codes, if◌then◌else◌}
+use Rattle.std.specs.Prelude.{ℕ, nat_lt, List, [], ◌++◌, length, codes, Option, Some, None, if◌then◌else◌}
 use Rattle.byte_cuts.specs.Lines.{lines_of}
 use Rattle.calc_model.specs.Books.{Book}
 use Rattle.calc_model.specs.declared.content.Content.{Content}
-use Rattle.calc_book.specs.BookForm.{book_read, is_plain_book}
+use Rattle.calc_book.specs.declared.cause.BookCause.{BookCause}
+use Rattle.calc_book.specs.BookCells.{book_fault, book_read}
+use Rattle.calc_book.specs.Causes.{cause_text}
 use Rattle.calc_cli.specs.declared.status.TheConstants.{BOOK_REFUSED, DONE, LINE_REFUSED, SCRIPT_TOO_LONG}
 use Rattle.calc_cli.specs.declared.limits.TheConstants.{MOST_SCRIPT_BYTES}
 use Rattle.calc_cli.specs.Output.{Session, has_refusal, loaded, output}
@@ -16,8 +17,8 @@ pub record Ending : Type 0 where
   pub status : ℕ
   pub written : List ℕ
 
-unfoldable pub not_built : Ending
-not_built = record { status = BOOK_REFUSED; written = codes "book refused: not-built\n" }
+unfoldable pub book_refused : BookCause → Ending
+book_refused cause = record { status = BOOK_REFUSED; written = codes "book refused: " ++ cause_text cause ++ codes "\n" }
 
 unfoldable pub too_long : Ending
 too_long = record { status = SCRIPT_TOO_LONG; written = [] }
@@ -32,8 +33,11 @@ module _ (field : List ℕ → Content) where
   unfoldable pub calculated : Book → List ℕ → Ending
   calculated book script = answered (loaded book) (lines_of script)
 
+  -- the end, by why the book is refused, if it is
+  abbrev pub ending_by : Option BookCause → List ℕ → List ℕ → Ending
+  ending_by (Some cause) book script = book_refused cause
+  ending_by None book script =
+      if nat_lt MOST_SCRIPT_BYTES (length script) then too_long else calculated (book_read field book) script
+
   abbrev pub ending : List ℕ → List ℕ → Ending
-  ending book script =
-      if not (is_plain_book book) then not_built
-      else if nat_lt MOST_SCRIPT_BYTES (length script) then too_long
-      else calculated (book_read field book) script
+  ending book script = ending_by (book_fault book) book script

@@ -14,6 +14,7 @@ use crate::words::book_name;
 use calc_io::{Desk, DeviceFault, Sink};
 use calc_model::Text;
 use std::alloc::Global;
+use std::thread::Threads;
 
 /// Runs the command of the words: takes a book and a script from the desk and writes the output of the
 /// script's lines to the sink. Answers the exit status.
@@ -21,7 +22,13 @@ use std::alloc::Global;
 /// 0: all is written and no line was refused; 1: a line was refused; 2: the words aren't of the command;
 /// 3: the desk failed; 4: the sink failed; 5: memory was refused; 6: the book is refused; 7: the script
 /// has more than 16,777,216 bytes.
-pub fn run<D: Desk, K: Sink>(alloc: Global, words: &[Text], desk: &mut D, sink: &mut K) -> u8
+pub fn run<R: Threads + Sync, D: Desk, K: Sink>(
+    rt: &R,
+    alloc: Global,
+    words: &[Text],
+    desk: &mut D,
+    sink: &mut K,
+) -> u8
     ensures words { result ≡ BAD_WORDS ↔ book_name words.now ≡ None }
     ensures untouched { result ≡ BAD_WORDS → (desk.new ≡ desk.old) × (sink.new ≡ sink.old) }
     ensures ends { OverFields (λ field. (book script : List ℕ)
@@ -50,13 +57,19 @@ pub fn run<D: Desk, K: Sink>(alloc: Global, words: &[Text], desk: &mut D, sink: 
         (K.faults sink.old) (K.faults sink.new)) }
 {
     match book_name(words) {
-        Some(name) => run_book(alloc, name, desk, sink),
+        Some(name) => run_book(rt, alloc, name, desk, sink),
         None => BAD_WORDS,
     }
 }
 
 /// Runs the command for the book of that name.
-fn run_book<D: Desk, K: Sink>(alloc: Global, name: &Text, desk: &mut D, sink: &mut K) -> u8
+fn run_book<R: Threads + Sync, D: Desk, K: Sink>(
+    rt: &R,
+    alloc: Global,
+    name: &Text,
+    desk: &mut D,
+    sink: &mut K,
+) -> u8
     ensures words { result ≢ BAD_WORDS }
     ensures ends { (book script : List ℕ)
         → Tells (D.books desk.old) (D.script_left desk.old) name.now book script
@@ -80,7 +93,7 @@ fn run_book<D: Desk, K: Sink>(alloc: Global, name: &Text, desk: &mut D, sink: &m
         → TakesWhole result (K.room sink.old) (length (ending field_of book script).written)
         (K.faults sink.old) (K.faults sink.new) }
 {
-    match read_inputs(alloc, desk, name) {
+    match read_inputs(rt, alloc, desk, name) {
         Ok(inputs) => finish(alloc, inputs, sink),
         Err(DeviceFault::Failed(_)) => DESK_FAILED,
         Err(DeviceFault::NoMemory(_)) => NO_MEMORY,

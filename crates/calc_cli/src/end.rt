@@ -1,6 +1,6 @@
-ghost use Rattle.std.specs.Prelude.{◌≡◌, ◌≢◌, ◌≤◌, length, List, Option, ℕ};
+ghost use Rattle.std.specs.Prelude.{◌≡◌, ◌≢◌, ◌<◌, ◌≤◌, length, IfOk, List, Option, ℕ};
 ghost use Rattle.formula_reader.specs.Fields.{field_of};
-ghost use Rattle.calc_cli.specs.Ending.{calculated, not_built};
+ghost use Rattle.calc_cli.specs.Ending.{book_refused, calculated};
 ghost use Rattle.calc_cli.specs.Inputs.{IsLeft, IsShort, ending_of};
 ghost use Rattle.calc_cli.specs.Runs.{CountsFaults, Ends, LeavesInputs, TakesWhole};
 
@@ -12,6 +12,8 @@ use crate::status::{
     SINK_FAILED,
 };
 use crate::written::write_all;
+use calc_addr::NoMemory;
+use calc_book::{BookCause, push_cause};
 use calc_io::{DeviceFault, Sink};
 use cell_map::CellMap;
 use std::alloc::Global;
@@ -33,24 +35,43 @@ pub(crate) fn finish<K: Sink>(alloc: Global, inputs: Inputs, sink: &mut K) -> u8
 {
     match inputs {
         Inputs::Loaded(book, script) => answer_script(alloc, book, &script, sink),
-        Inputs::NotBuilt => refuse_book(sink),
+        Inputs::Refused(cause) => refuse_book(alloc, cause, sink),
         Inputs::TooLong => SCRIPT_TOO_LONG,
     }
 }
 
-#[tactic(auto, unfolding(crate::specs::Ending::not_built))]
-fn refuse_book<K: Sink>(sink: &mut K) -> u8
-    ensures ends { Ends result (K.written sink.old) (K.written sink.new) not_built }
-    ensures one_of { result ≢ BOOK_REFUSED → result ≡ SINK_FAILED }
+/// Writes why the book is refused.
+#[tactic(auto, unfolding(crate::specs::Ending::book_refused))]
+fn refuse_book<K: Sink>(alloc: Global, cause: BookCause, sink: &mut K) -> u8
+    ensures ends { Ends result (K.written sink.old) (K.written sink.new) (book_refused cause) }
+    ensures late { LINE_REFUSED < result }
+    ensures words { result ≢ BAD_WORDS }
+    ensures desk { result ≢ DESK_FAILED }
+    ensures script { result ≢ SCRIPT_TOO_LONG }
 
     ensures faults { CountsFaults SINK_FAILED result (K.faults sink.old) (K.faults sink.new) }
-    ensures room { TakesWhole result (K.room sink.old) (length not_built.written)
+    ensures room { TakesWhole result (K.room sink.old) (length (book_refused cause).written)
         (K.faults sink.old) (K.faults sink.new) }
 {
-    match write_all(sink, b"book refused: not-built\n") {
+    let Ok(text) = refusal_of(alloc, cause) else {
+        return NO_MEMORY;
+    };
+    match write_all(sink, &text) {
         Ok(()) => BOOK_REFUSED,
         Err(_) => SINK_FAILED,
     }
+}
+
+/// What is written where the book is refused.
+#[tactic(auto, unfolding(crate::specs::Ending::book_refused))]
+fn refusal_of(alloc: Global, cause: BookCause) -> Result<Vec<u8>, NoMemory>
+    ensures { IfOk result (λ text. text.items ≡ (book_refused cause).written) }
+{
+    let mut text = Vec::new(alloc);
+    text.extend_from_slice(b"book refused: ")?;
+    push_cause(cause, &mut text)?;
+    text.push(b'\n')?;
+    Ok(text)
 }
 
 /// Answers the script's lines over the book.

@@ -9,31 +9,36 @@ ghost use Rattle.calc_cli.specs.Runs.{IsEnding, TakesAtMost, Tells};
 
 use crate::input_bytes::{Input, read_all};
 use crate::limits::MOST_SCRIPT_BYTES;
-use calc_book::{BookFault, MOST_BYTES, read_book};
+use calc_book::{BookCause, BookFault, MOST_BYTES, load};
 use calc_io::{Desk, DeviceFault};
 use calc_model::Text;
 use cell_map::CellMap;
 use std::alloc::Global;
+use std::thread::Threads;
 
 /// What the desk gave.
 #[derive(Drop)]
 pub(crate) enum Inputs {
     /// The book and the script.
     Loaded(CellMap, Vec<u8>),
-    /// The book can't be read so far.
-    NotBuilt,
+    /// The book is refused.
+    Refused(BookCause),
     /// The script is too long.
     TooLong,
 }
 
-/// The book of these bytes, unless they have a form that can't be read so far.
-fn book_of(alloc: Global, bytes: &[u8]) -> Result<Option<CellMap>, DeviceFault>
+/// The book of these bytes, or why it is refused.
+fn book_of<R: Threads + Sync>(
+    rt: &R,
+    alloc: Global,
+    bytes: &[u8],
+) -> Result<Result<CellMap, BookCause>, DeviceFault>
     ensures read { IfOk result (λ book. IsLoaded book bytes.now) }
     ensures memory { HasFailed result → ⊥ }
 {
-    match read_book(alloc, bytes) {
-        Ok(book) => Ok(Some(book)),
-        Err(BookFault::NotBuilt) => Ok(None),
+    match load(rt, alloc, bytes) {
+        Ok(book) => Ok(Ok(book)),
+        Err(BookFault::Refused(cause)) => Ok(Err(cause)),
         Err(BookFault::NoMemory(refused)) => Err(DeviceFault::NoMemory(refused)),
     }
 }
@@ -82,12 +87,13 @@ fn open<D: Desk>(desk: &mut D, name: &Text) -> Result<(), DeviceFault>
     }
 }
 
-/// The book of that name, unless it has a form that can't be read so far.
-fn load_book<D: Desk>(
+/// The book of that name, or why it is refused.
+fn load_book<R: Threads + Sync, D: Desk>(
+    rt: &R,
     alloc: Global,
     desk: &mut D,
     name: &Text,
-) -> Result<Option<CellMap>, DeviceFault>
+) -> Result<Result<CellMap, BookCause>, DeviceFault>
     ensures told { (bytes : List ℕ) → told_book (D.books desk.old) name.now ≡ Some bytes
         → IfOk result (λ book. IsLoaded book bytes) }
     ensures some_book { IfOk result (λ book. (bytes : List ℕ) × IsLoaded book bytes) }
@@ -108,12 +114,13 @@ fn load_book<D: Desk>(
 {
     open(desk, name)?;
     let bytes = read_all(alloc, desk, Input::BookInput, MOST_BYTES)?;
-    let book = book_of(alloc, &bytes)?;
+    let book = book_of(rt, alloc, &bytes)?;
     Ok(book)
 }
 
 /// What the desk has, or why it can't be taken.
-pub(crate) fn read_inputs<D: Desk>(
+pub(crate) fn read_inputs<R: Threads + Sync, D: Desk>(
+    rt: &R,
     alloc: Global,
     desk: &mut D,
     name: &Text,
@@ -141,11 +148,12 @@ pub(crate) fn read_inputs<D: Desk>(
     ensures no_fault { IsTrue (D.calm desk.old) → IsSome (told_book (D.books desk.old) name.now)
         → D.faults desk.new ≡ D.faults desk.old }
 {
-    let Some(book) = load_book(alloc, desk, name)? else {
-        return Ok(Inputs::NotBuilt);
-    };
-    match read_script(alloc, desk)? {
-        Some(script) => Ok(Inputs::Loaded(book, script)),
-        None => Ok(Inputs::TooLong),
+    let book = load_book(rt, alloc, desk, name)?;
+    match book {
+        Ok(book) => match read_script(alloc, desk)? {
+            Some(script) => Ok(Inputs::Loaded(book, script)),
+            None => Ok(Inputs::TooLong),
+        },
+        Err(cause) => Ok(Inputs::Refused(cause)),
     }
 }

@@ -5,6 +5,7 @@ use calc_io::{MemoryDesk, MemorySink, PipeDesk, PipeSink, SteadyDesk, SteadySink
 use calc_model::Text;
 use std::alloc::{AllocError, Global};
 use std::test::Fail;
+use std::thread::Threads;
 use std::{env, fs};
 
 const BOOK: &str = "1,2,=[.A1]+[.B1],=[.C1]+[.C1]\n";
@@ -18,7 +19,7 @@ fn a_missing_book_ends_with_3(rt: HostRuntime) -> Result<(), Fail> {
     let alloc = rt.alloc();
     let mut desk = SteadyDesk::new(Vec::new(alloc), bytes(alloc, SCRIPT)?);
     let mut sink = SteadySink::new(alloc, 64)?;
-    assert_eq!(rt; run(alloc, &words(alloc)?, &mut desk, &mut sink), 3);
+    assert_eq!(rt; run(&rt, alloc, &words(alloc)?, &mut desk, &mut sink), 3);
     assert_eq!(rt; sink.written(), b"".as_slice());
     Ok(())
 }
@@ -32,7 +33,7 @@ fn bad_words_end_with_2(rt: HostRuntime) -> Result<(), Fail> {
     for words in [option, two, none] {
         let mut desk = SteadyDesk::new(books(alloc, bytes(alloc, BOOK)?)?, bytes(alloc, SCRIPT)?);
         let mut sink = SteadySink::new(alloc, 64)?;
-        assert_eq!(rt; run(alloc, &words, &mut desk, &mut sink), 2);
+        assert_eq!(rt; run(&rt, alloc, &words, &mut desk, &mut sink), 2);
         assert_eq!(rt; sink.written(), b"".as_slice());
     }
     Ok(())
@@ -43,7 +44,7 @@ fn a_script_past_its_limit_ends_with_7(rt: HostRuntime) -> Result<(), Fail> {
     let alloc = rt.alloc();
     for (size, status) in [(16_777_216, 0), (16_777_217, 7)] {
         let script = vec![in alloc; b'\n'; size]?;
-        let (ended, written) = outcome(alloc, Vec::new(alloc), script)?;
+        let (ended, written) = outcome(&rt, alloc, Vec::new(alloc), script)?;
         assert_eq!(rt; ended, status);
         assert_eq!(rt; written.as_slice(), b"".as_slice());
     }
@@ -51,7 +52,12 @@ fn a_script_past_its_limit_ends_with_7(rt: HostRuntime) -> Result<(), Fail> {
 }
 
 /// A run in pieces of three bytes whose k-th call of the desk and of the sink fails.
-fn failing(alloc: Global, desk_call: u64, sink_call: u64) -> Result<(u8, Vec<u8>), AllocError> {
+fn failing(
+    rt: &(impl Threads + Sync),
+    alloc: Global,
+    desk_call: u64,
+    sink_call: u64,
+) -> Result<(u8, Vec<u8>), AllocError> {
     let mut desk = MemoryDesk::new(
         books(alloc, bytes(alloc, BOOK)?)?,
         bytes(alloc, SCRIPT)?,
@@ -59,7 +65,7 @@ fn failing(alloc: Global, desk_call: u64, sink_call: u64) -> Result<(u8, Vec<u8>
         3,
     );
     let mut sink = MemorySink::new(alloc, 64, vec![in alloc; sink_call]?, 3)?;
-    let status = run(alloc, &words(alloc)?, &mut desk, &mut sink);
+    let status = run(rt, alloc, &words(alloc)?, &mut desk, &mut sink);
     Ok((status, Vec::from_slice(alloc, sink.written())?))
 }
 
@@ -68,11 +74,11 @@ fn a_desk_that_fails_ends_with_3(rt: HostRuntime) -> Result<(), Fail> {
     let alloc = rt.alloc();
     // One call opens the book; 30 bytes and 21 bytes are read by threes, and one call tells each end.
     for call in 1..=20 {
-        let (status, written) = failing(alloc, call, 0)?;
+        let (status, written) = failing(&rt, alloc, call, 0)?;
         assert_eq!(rt; status, 3);
         assert_eq!(rt; written.as_slice(), b"".as_slice());
     }
-    let (status, written) = failing(alloc, 21, 0)?;
+    let (status, written) = failing(&rt, alloc, 21, 0)?;
     assert_eq!(rt; status, 0);
     assert_eq!(rt; written.as_slice(), OUTPUT.as_bytes());
     Ok(())
@@ -82,11 +88,11 @@ fn a_desk_that_fails_ends_with_3(rt: HostRuntime) -> Result<(), Fail> {
 fn a_sink_that_fails_ends_with_4(rt: HostRuntime) -> Result<(), Fail> {
     let alloc = rt.alloc();
     for (call, output) in [(1, ""), (2, "1,2"), (3, "1,2,3,"), (4, "1,2,3,6\n")] {
-        let (status, written) = failing(alloc, 0, call)?;
+        let (status, written) = failing(&rt, alloc, 0, call)?;
         assert_eq!(rt; status, 4);
         assert_eq!(rt; written.as_slice(), output.as_bytes());
     }
-    let (status, written) = failing(alloc, 0, 5)?;
+    let (status, written) = failing(&rt, alloc, 0, 5)?;
     assert_eq!(rt; status, 0);
     assert_eq!(rt; written.as_slice(), OUTPUT.as_bytes());
     Ok(())
@@ -110,7 +116,7 @@ fn real_files_serve(rt: HostRuntime) -> Result<(), Fail> {
     let words = vec![in alloc; text(alloc, name)?]?;
     let mut desk = PipeDesk::new(&rt, fs::open(&rt, &script)?);
     let mut sink = PipeSink::new(fs::create(&rt, &output)?);
-    let status = run(alloc, &words, &mut desk, &mut sink);
+    let status = run(&rt, alloc, &words, &mut desk, &mut sink);
     drop(sink);
     let written = fs::read(&rt, &output)?;
     fs::remove_dir_all(&rt, &folder)?;

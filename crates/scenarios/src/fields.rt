@@ -34,7 +34,12 @@ const ROWS: [Row; 7] = [
         "1,2\n3,\n1,2\n3,\n",
         0,
     ),
-    ("\"", "", "book refused: not-built\n", 6),
+    (
+        "\"a,b\",1\n",
+        "print A1:B1\n",
+        "\"a,b\",1\n",
+        0,
+    ),
 ];
 
 #[test]

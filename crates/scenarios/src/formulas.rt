@@ -3,6 +3,7 @@ use crate::runs::{Row, bytes, expect, outcome};
 use std::alloc::{AllocError, Global};
 use std::process::Abort;
 use std::test::Fail;
+use std::thread::Threads;
 
 const ROWS: [Row; 3] = [
     (
@@ -166,7 +167,7 @@ fn spelled(alloc: Global, front: &str, parts: Parts) -> Result<String, AllocErro
 
 /// Stops unless the cell that holds a field is written so, and shows that.
 fn expect_written(
-    rt: &impl Abort,
+    rt: &(impl Abort + Threads + Sync),
     alloc: Global,
     field: &str,
     written: &str,
@@ -175,7 +176,7 @@ fn expect_written(
     let mut script = bytes(alloc, "set A1 ")?;
     script.extend_from_slice(field.as_bytes())?;
     script.extend_from_slice(b"\nformulas A1\nprint A1\n")?;
-    let (status, output) = outcome(alloc, Vec::new(alloc), script)?;
+    let (status, output) = outcome(rt, alloc, Vec::new(alloc), script)?;
     let mut lines = bytes(alloc, written)?;
     lines.push(b'\n')?;
     lines.extend_from_slice(shown.as_bytes())?;
@@ -229,7 +230,7 @@ fn formulas_of_a_book_stand_as_they_are_written(rt: HostRuntime) -> Result<(), F
     book.push_str(&spelled(alloc, ",=", beyond)?)?;
     book.push('\n')?;
     let script = bytes(alloc, "formulas A1:B1\nprint A1:B1\n")?;
-    let (status, written) = outcome(alloc, bytes(alloc, &book)?, script)?;
+    let (status, written) = outcome(&rt, alloc, bytes(alloc, &book)?, script)?;
     book.push_str("1,#SYNTAX!\n")?;
     assert_eq!(rt; written.as_slice(), book.as_bytes());
     assert_eq!(rt; status, 0);

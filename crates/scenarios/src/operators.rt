@@ -124,7 +124,7 @@ fn joined_texts_have_a_limit(rt: HostRuntime) -> Result<(), Fail> {
         script.push(b'x')?;
     }
     script.extend_from_slice(b"\nset B1 =[.A1]&\"\"=[.A1]\nset C1 =[.A1]&\"y\"\nprint B1:C1\n")?;
-    let (status, written) = outcome(alloc, Vec::new(alloc), script)?;
+    let (status, written) = outcome(&rt, alloc, Vec::new(alloc), script)?;
     assert_eq!(rt; written.as_slice(), b"1,#OVER!\n".as_slice());
     assert_eq!(rt; status, 0);
     Ok(())

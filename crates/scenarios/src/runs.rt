@@ -4,6 +4,7 @@ use calc_io::{SteadyDesk, SteadySink};
 use calc_model::Text;
 use std::alloc::{AllocError, Global};
 use std::process::Abort;
+use std::thread::Threads;
 
 /// The most bytes that a run may write.
 const ROOM: usize = 262_144;
@@ -31,20 +32,25 @@ pub(crate) fn books(alloc: Global, book: Vec<u8>) -> Result<Vec<(Text, Vec<u8>)>
 
 /// The status of a run over one book, and what it wrote.
 pub(crate) fn outcome(
+    rt: &(impl Threads + Sync),
     alloc: Global,
     book: Vec<u8>,
     script: Vec<u8>,
 ) -> Result<(u8, Vec<u8>), AllocError> {
     let mut desk = SteadyDesk::new(books(alloc, book)?, script);
     let mut sink = SteadySink::new(alloc, ROOM)?;
-    let status = run(alloc, &words(alloc)?, &mut desk, &mut sink);
+    let status = run(rt, alloc, &words(alloc)?, &mut desk, &mut sink);
     Ok((status, Vec::from_slice(alloc, sink.written())?))
 }
 
 /// Stops unless the run of a row ends and writes as the row says.
-pub(crate) fn expect(rt: &impl Abort, alloc: Global, row: Row) -> Result<(), AllocError> {
+pub(crate) fn expect(
+    rt: &(impl Abort + Threads + Sync),
+    alloc: Global,
+    row: Row,
+) -> Result<(), AllocError> {
     let (book, script, output, status) = row;
-    let (ended, written) = outcome(alloc, bytes(alloc, book)?, bytes(alloc, script)?)?;
+    let (ended, written) = outcome(rt, alloc, bytes(alloc, book)?, bytes(alloc, script)?)?;
     assert_eq!(rt; written.as_slice(), output.as_bytes(), "{book}: {script}");
     assert_eq!(rt; ended, status, "{book}: {script}");
     Ok(())

@@ -12,7 +12,7 @@ fn main(rt: HostRuntime) -> Result<ExitCode, anyhow::Error> {
     let mut all_hold = true;
     for name in env::args(&rt)?.skip(1) {
         let table = fs::read(&rt, &name)?;
-        let outcome = run_rows(rt.alloc(), &table)?;
+        let outcome = run_rows(&rt, rt.alloc(), &table)?;
         if outcome.failed == 0 {
             println!(rt; "{name}: {} rows hold", outcome.rows)?;
         } else {

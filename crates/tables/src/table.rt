@@ -3,6 +3,7 @@ use calc_cli::run;
 use calc_io::{SteadyDesk, SteadySink};
 use calc_model::Text;
 use std::alloc::{AllocError, Global};
+use std::thread::Threads;
 
 /// What begins a line of a book, of a script and of what is printed, and the line that ends a row.
 const BOOK: &[u8] = b"book   ";
@@ -43,12 +44,17 @@ impl Row {
     }
 
     /// What the run of the row prints, unless it is what the row says, with that status.
-    fn failure(self, alloc: Global, status: &[u8]) -> Result<Option<Vec<u8>>, AllocError> {
+    fn failure(
+        self,
+        rt: &(impl Threads + Sync),
+        alloc: Global,
+        status: &[u8],
+    ) -> Result<Option<Vec<u8>>, AllocError> {
         let name = Text::of(String::from_str(alloc, "book")?);
         let words = vec![in alloc; name.copy(alloc)?]?;
         let mut desk = SteadyDesk::new(vec![in alloc; (name, self.book)]?, self.script);
         let mut sink = SteadySink::new(alloc, ROOM)?;
-        let ended = run(alloc, &words, &mut desk, &mut sink);
+        let ended = run(rt, alloc, &words, &mut desk, &mut sink);
         if sink.written() == self.prints.as_slice() && is_number(ended, status) {
             return Ok(None);
         }
@@ -67,7 +73,11 @@ fn push_line(text: &mut Vec<u8>, line: &[u8]) -> Result<(), AllocError> {
 }
 
 /// Runs the rows of a table. A line that begins as none of a row does is a comment.
-pub(crate) fn run_rows(alloc: Global, table: &[u8]) -> Result<Outcome, AllocError> {
+pub(crate) fn run_rows(
+    rt: &(impl Threads + Sync),
+    alloc: Global,
+    table: &[u8],
+) -> Result<Outcome, AllocError> {
     let mut row = Row::new(alloc);
     let mut outcome = Outcome {
         rows: 0,
@@ -86,7 +96,7 @@ pub(crate) fn run_rows(alloc: Global, table: &[u8]) -> Result<Outcome, AllocErro
             outcome.rows = outcome.rows.wrapping_add(1);
             let whole = row;
             row = Row::new(alloc);
-            if let Some(printed) = whole.failure(alloc, status)? {
+            if let Some(printed) = whole.failure(rt, alloc, status)? {
                 if outcome.failed == 0 {
                     outcome.first_failed = outcome.rows;
                     outcome.printed = printed;

@@ -6,7 +6,7 @@ use Rattle.formula_reader.specs.Fields.{field_of}
 use Rattle.calc_cli.specs.Output.{Session, answer, has_refusal, output}
 use Rattle.calc_cli.specs.Sessions.{session_of}
 use Rattle.calc_cli.specs.Runs.{GrowsWithin}
-use Rattle.calc_book.proofs.Parts.{few_lines}
+use Rattle.calc_cli.proofs.FewLines.{few_lines}
 use Rattle.calc_cli.proofs.Pieces.{at_error}
 use Rattle.calc_cli.proofs.Progress.{IsWrittenTo, part_written, refused_more, stopped_inside, room_for_part, room_behind_part}
 use Rattle.calc_cli.proofs.output.write_output.Goals as goal
