@@ -1,5 +1,5 @@
 -- How the inputs lead to the end of a run.
-use Rattle.std.proofs.Common.{[], ◌≡◌, ℕ, ◌+◌, ◌≤◌, ◌<◌, Bool, true, false, not, cond, List, length, take, drop, Option, None, Some, Result, Ok, Err, refl, sym, ap, subst, ◌∙◌, append-nil, arith, nat_lt, nat_le, ◌⊎◌, inl, inr}
+use Rattle.std.proofs.Common.{[], ◌≡◌, ◌≢◌, ℕ, ◌+◌, ◌≤◌, ◌<◌, Bool, true, false, not, cond, List, length, take, drop, Option, None, Some, Result, Ok, Err, refl, sym, ap, subst, ◌∙◌, append-nil, arith, nat_lt, nat_le, ◌⊎◌, inl, inr}
 use Rattle.std.specs.Io.KnownBytes.{Appends}
 use Rattle.std.proofs.KnownBytes.{Appends-nil}
 use Rattle.std.proofs.lemmas.List.{drop_all}
@@ -18,7 +18,7 @@ use Rattle.calc_cli.specs.Ending.{Ending, answered, book_refused, calculated, en
 use Rattle.calc_cli.specs.Output.{Session, has_refusal, output}
 use Rattle.calc_cli.specs.Inputs.{IsLoaded}
 use Rattle.calc_io.specs.Desk.{Books}
-use Rattle.calc_cli.specs.Runs.{Ends, EndsSomehow, IsUndisturbed, LeavesInputs, Serves, Tells}
+use Rattle.calc_cli.specs.Runs.{Ends, EndsSomehow, GrowsWithin, IsUndisturbed, LeavesInputs, Serves, Tells}
 use Rattle.calc_cli.specs.Words.{book_name}
 use Rattle.calc_cli.proofs.TakenBytes.{longer, whole}
 
@@ -31,23 +31,23 @@ too_long_ends old = record {
   nothing = λ _. Appends-nil old;
 }
 
-pub ends_refused : (book script : List ℕ) (cause : BookCause) → book_fault book ≡ Some cause → book_refused cause ≡ ending field_of book script
-ends_refused book script cause bad = ap (λ fault. ending_by field_of fault book script) (sym bad)
+pub ends_refused : (stock : ℕ) (book script : List ℕ) (cause : BookCause) → book_fault book ≡ Some cause → book_refused cause ≡ ending field_of stock book script
+ends_refused stock book script cause bad = ap (λ fault. ending_by field_of fault stock book script) (sym bad)
 
 -- the end over a book that isn't refused, by the test of the script
-abbrev by_size_of_script : List ℕ → List ℕ → Bool → Ending
-by_size_of_script book script long = cond long too_long (calculated field_of (book_read field_of book) script)
+abbrev by_size_of_script : ℕ → List ℕ → List ℕ → Bool → Ending
+by_size_of_script stock book script long = cond long too_long (calculated field_of stock (book_read field_of book) script)
 
-pub ends_too_long : (book script : List ℕ) → book_fault book ≡ None → nat_lt MOST_SCRIPT_BYTES (length script) ≡ true → too_long ≡ ending field_of book script
-ends_too_long book script good long =
-    ap (by_size_of_script book script) (sym long) ∙ ap (λ fault. ending_by field_of fault book script) (sym good)
+pub ends_too_long : (stock : ℕ) (book script : List ℕ) → book_fault book ≡ None → nat_lt MOST_SCRIPT_BYTES (length script) ≡ true → too_long ≡ ending field_of stock book script
+ends_too_long stock book script good long =
+    ap (by_size_of_script stock book script) (sym long) ∙ ap (λ fault. ending_by field_of fault stock book script) (sym good)
 
-pub ends_answered : (book script taken : List ℕ) (loaded : Book) → book_fault book ≡ None → nat_lt MOST_SCRIPT_BYTES (length script) ≡ false → loaded ≡ book_read field_of book → taken ≡ script → calculated field_of loaded taken ≡ ending field_of book script
-ends_answered book script taken loaded good short loaded_is taken_is =
-    ap (λ b. calculated field_of b taken) loaded_is
-    ∙ ap (calculated field_of (book_read field_of book)) taken_is
-    ∙ ap (by_size_of_script book script) (sym short)
-    ∙ ap (λ fault. ending_by field_of fault book script) (sym good)
+pub ends_answered : (stock : ℕ) (book script taken : List ℕ) (loaded : Book) → book_fault book ≡ None → nat_lt MOST_SCRIPT_BYTES (length script) ≡ false → loaded ≡ book_read field_of book → taken ≡ script → calculated field_of stock loaded taken ≡ ending field_of stock book script
+ends_answered stock book script taken loaded good short loaded_is taken_is =
+    ap (λ b. calculated field_of stock b taken) loaded_is
+    ∙ ap (calculated field_of stock (book_read field_of book)) taken_is
+    ∙ ap (by_size_of_script stock book script) (sym short)
+    ∙ ap (λ fault. ending_by field_of fault stock book script) (sym good)
 
 -- the bytes taken of a book, up to one more than it may have, tell whether it is refused
 too_big : (book : List ℕ) → MOST_BYTES < length book → book_fault book ≡ Some TooLarge
@@ -102,6 +102,15 @@ answered_ends status refused session lines old new status_is low refused_is writ
   nothing = λ desk. absurd (omega arith);
 }
 
+-- a device failed or memory was wanting in the midst of the lines, of whose output a front is written
+pub cut_short : (status : ℕ) (session : Session) (lines : List (List ℕ)) (old new : Option (List ℕ)) → (IsUndisturbed status → ⊥) → status ≢ DESK_FAILED → GrowsWithin old new (output field_of session 1 lines) → Ends status old new (answered field_of session lines)
+cut_short status session lines old new not desk written = record {
+  done = λ calm. absurd (not calm);
+  all = λ calm. absurd (not calm);
+  prefix = written;
+  nothing = λ is. absurd (desk is);
+}
+
 -- the refusal of a book was written
 pub refusal_ends : (cause : BookCause) (text : List ℕ) (old new : Option (List ℕ)) → text ≡ (book_refused cause).written → Appends old new text → Ends BOOK_REFUSED old new (book_refused cause)
 unfolding book_refused
@@ -124,9 +133,9 @@ memory_wanting old end = record {
 }
 
 -- where a run was disturbed before it wrote, it ended as for any book and script
-pub disturbed : (status : ℕ) (old : Option (List ℕ)) → (IsUndisturbed status → ⊥) → EndsSomehow status old old
-disturbed status old not =
-    let end = ending field_of [] [] in (
+pub disturbed : (stock status : ℕ) (old : Option (List ℕ)) → (IsUndisturbed status → ⊥) → EndsSomehow stock status old old
+disturbed stock status old not =
+    let end = ending field_of stock [] [] in (
       end,
       (field_of, field_reads, [], [], refl),
       record {

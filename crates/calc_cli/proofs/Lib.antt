@@ -7,3 +7,5 @@ pub mod FewLines
 pub mod TakenBytes
 pub mod Pieces
 pub mod Progress
+-- the session after an edit and after `watch`
+mod SessionSteps

@@ -1,6 +1,7 @@
--- How a run ends, by its book and its script. A book may be refused, and then the script isn't looked at. A script that is too long isn't taken. Otherwise the script's lines are answered one after
--- the other over the book's cells, and the status says whether a line was refused. What a field holds is
--- given: `field` says it of each text.
+-- How a run ends, by its book and its script. A book may be refused, and then the script isn't looked at. A script
+-- that is too long isn't taken. Otherwise the script's lines are answered one after the other over the book's cells, and
+-- the status says whether a line was refused. What a field holds is given: `field` says it of each text. So is how many
+-- watchers are in stock.
 use Rattle.std.specs.Prelude.{ℕ, nat_lt, List, [], ◌++◌, length, codes, Option, Some, None, if◌then◌else◌}
 use Rattle.byte_cuts.specs.Lines.{lines_of}
 use Rattle.calc_model.specs.Books.{Book}
@@ -30,14 +31,14 @@ module _ (field : List ℕ → Content) where
     written = output field session 1 lines;
   }
 
-  unfoldable pub calculated : Book → List ℕ → Ending
-  calculated book script = answered (loaded book) (lines_of script)
+  unfoldable pub calculated : ℕ → Book → List ℕ → Ending
+  calculated stock book script = answered (loaded book stock) (lines_of script)
 
   -- the end, by why the book is refused, if it is
-  abbrev pub ending_by : Option BookCause → List ℕ → List ℕ → Ending
-  ending_by (Some cause) book script = book_refused cause
-  ending_by None book script =
-      if nat_lt MOST_SCRIPT_BYTES (length script) then too_long else calculated (book_read field book) script
+  abbrev pub ending_by : Option BookCause → ℕ → List ℕ → List ℕ → Ending
+  ending_by (Some cause) stock book script = book_refused cause
+  ending_by None stock book script =
+      if nat_lt MOST_SCRIPT_BYTES (length script) then too_long else calculated stock (book_read field book) script
 
-  abbrev pub ending : List ℕ → List ℕ → Ending
-  ending book script = ending_by (book_fault book) book script
+  abbrev pub ending : ℕ → List ℕ → List ℕ → Ending
+  ending stock book script = ending_by (book_fault book) stock book script

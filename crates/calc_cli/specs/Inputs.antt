@@ -21,11 +21,11 @@ abbrev pub other : Input → Input
 other BookInput = ScriptInput
 other ScriptInput = BookInput
 
--- the end that the inputs lead to
-abbrev pub ending_of : Inputs → Ending
-ending_of (Loaded book script) = calculated field_of book script.items
-ending_of (Refused cause) = book_refused cause
-ending_of TooLong = too_long
+-- the end that the inputs lead to, with so many watchers in stock
+abbrev pub ending_of : ℕ → Inputs → Ending
+ending_of stock (Loaded book script) = calculated field_of stock book script.items
+ending_of stock (Refused cause) = book_refused cause
+ending_of stock TooLong = too_long
 
 -- a script that was taken is within its limit
 abbrev pub IsShort : Inputs → Type 0

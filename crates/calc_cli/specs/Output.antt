@@ -3,10 +3,13 @@
 -- `make` writes `made C cells, F formulas`, the numbers of the new book's cells and formulas.
 -- `calc` writes `recalculated N`, where N is the number of stale formulas, and recalculates. `print`
 -- recalculates and writes what its cells show, each evaluated alone from scratch; `formulas` writes what
--- they hold. After a recalculation no formula is stale. What a field of a line holds is given: `field` says it
+-- they hold. After a recalculation no formula is stale, and each watcher is told what changed. `watch` recalculates and
+-- attaches a watcher from the stock, `told` writes what the watchers were told, and `unwatch` drops the last. What a field of a line holds is given: `field` says it
 -- of each text.
-use Rattle.std.specs.Prelude.{ℕ, ◌+◌, ◌||◌, Bool, true, false, List, [], ◌∷◌, ◌++◌, length, codes, Result, Ok, Err}
+use Rattle.std.specs.Prelude.{ℕ, ◌+◌, ◌-◌, ◌==◌, ◌||◌, Bool, true, false, List, [], ◌∷◌, ◌++◌, length, map, take, codes, Result, Ok, Err, if◌then◌else◌}
 use Rattle.std.specs.Fmt.{decimal}
+use Rattle.std.specs.List.{flat_map}
+use Rattle.calc_addr.specs.Places.{Rectangle}
 use Rattle.calc_model.specs.Books.{Book, formula_count}
 use Rattle.calc_model.specs.Touched.{CellSet}
 use Rattle.calc_model.specs.Stale.{count_in, is_formula_cell, stale_after}
@@ -16,6 +19,8 @@ use Rattle.calc_model.specs.declared.content.Content.{Content}
 use Rattle.calc_model.specs.declared.edit.Edit.{Edit}
 use Rattle.calc_model.specs.declared.edit.Edit.TheVariants.{Make}
 use Rattle.calc_model.specs.declared.edit.EditCause.{EditCause}
+use Rattle.calc_model.specs.Meanings.{values_in}
+use Rattle.calc_watch.specs.Reports.{Watched, described, told_all, watched}
 use Rattle.calc_script.specs.declared.command.Line.{Line}
 use Rattle.calc_script.specs.declared.command.Line.TheVariants.{Nothing, Do, Refused}
 use Rattle.calc_script.specs.declared.command.Command.{Command}
@@ -25,18 +30,31 @@ use Rattle.calc_script.specs.declared.command.Cause.TheVariants as causes
 use Rattle.calc_script.specs.Commands.{line_of, cause_word}
 use Rattle.calc_cli.specs.Records.{held_texts, printed_area, shown_texts}
 
--- a book, and which of its formulas are stale
+-- a book, which of its formulas are stale, the watchers that are attached, and how many more are in stock
 pub record Session : Type 0 where
   pub book : Book
   pub stale : CellSet
+  pub watchers : List Watched
+  pub stock : ℕ
 
--- a loaded book, whose formulas are all stale
-abbrev pub loaded : Book → Session
-loaded book = record { book = book; stale = is_formula_cell book }
+-- a loaded book, whose formulas are all stale, with no watcher attached
+abbrev pub loaded : Book → ℕ → Session
+loaded book stock = record { book = book; stale = is_formula_cell book; watchers = []; stock = stock }
 
--- after a recalculation
+-- after a recalculation, which tells each watcher what changed
 abbrev pub recalculated : Session → Session
-recalculated session = record session { stale = λ _. false }
+recalculated session = record session { stale = λ _. false; watchers = map (told_all (val session.book)) session.watchers }
+
+-- with a watcher more, of an area whose values it knows
+abbrev pub with_watcher : Session → Rectangle → Session
+with_watcher session area = record session {
+  watchers = session.watchers ++ watched area (values_in (val session.book) area) [] ∷ [];
+  stock = session.stock - 1;
+}
+
+-- without the watcher that was attached last, which doesn't go back to the stock
+abbrev pub without_watcher : Session → Session
+without_watcher session = record session { watchers = take (length session.watchers - 1) session.watchers }
 
 -- The session after a line, what the line writes, and whether it is refused.
 pub record Answer : Type 0 where
@@ -62,7 +80,7 @@ edit_text _ book = []
 -- an edit that gives a new book, or a cause
 abbrev pub edited : Session → ℕ → Edit → Result Book EditCause → Answer
 edited session number edit (Ok book) =
-    accepted (record { book = book; stale = stale_after session.book edit book session.stale }) (edit_text edit book)
+    accepted (record session { book = book; stale = stale_after session.book edit book session.stale }) (edit_text edit book)
 edited session number edit (Err cause) = refusal session number (causes.Edit cause)
 
 abbrev pub recalculation : Session → List ℕ
@@ -73,6 +91,15 @@ done session number (commands.Edit edit) = edited session number edit (step sess
 done session number commands.Calc = accepted (recalculated session) (recalculation session)
 done session number (commands.Print area) = accepted (recalculated session) (printed_area (shown_texts (val session.book)) area)
 done session number (commands.Formulas area) = accepted session (printed_area (held_texts session.book) area)
+done session number (commands.Watch area) =
+    if session.stock == 0 then refusal session number causes.NoWatcher
+    else accepted (with_watcher (recalculated session) area) []
+done session number commands.Told =
+    if length session.watchers == 0 then refusal session number causes.NoWatcher
+    else accepted session (flat_map (λ watch. described watch.told) session.watchers)
+done session number commands.Unwatch =
+    if length session.watchers == 0 then refusal session number causes.NoWatcher
+    else accepted (without_watcher session) []
 -- the other commands aren't built yet
 done session number _ = refusal session number causes.BadCommand
 

@@ -41,13 +41,13 @@ pub record Ends (status : ℕ) (old new : Option (List ℕ)) (end : Ending) : Ty
   pub prefix : GrowsWithin old new end.written
   pub nothing : status ≡ DESK_FAILED → Appends old new []
 
--- the end that some book and some script lead to, over the meaning of fields
-abbrev pub IsEnding : Ending → Type 0
-IsEnding end = (field : List ℕ → Content) × ReadsFields field × (book : List ℕ) × (script : List ℕ) × (end ≡ ending field book script)
+-- the end that some book and some script lead to, over the meaning of fields, with so many watchers in stock
+abbrev pub IsEnding : ℕ → Ending → Type 0
+IsEnding stock end = (field : List ℕ → Content) × ReadsFields field × (book : List ℕ) × (script : List ℕ) × (end ≡ ending field stock book script)
 
 -- A run ended as it does for some book and some script.
-abbrev pub EndsSomehow : ℕ → Option (List ℕ) → Option (List ℕ) → Type 0
-EndsSomehow status old new = (end : Ending) × IsEnding end × Ends status old new end
+abbrev pub EndsSomehow : ℕ → ℕ → Option (List ℕ) → Option (List ℕ) → Type 0
+EndsSomehow stock status old new = (end : Ending) × IsEnding stock end × Ends status old new end
 
 -- what is left of some bytes of which at most so many were taken
 abbrev pub TakesAtMost : ℕ → List ℕ → Option (List ℕ) → Type 0

@@ -1,4 +1,5 @@
-ghost use Rattle.std.specs.Prelude.{◌≡◌, ◌≢◌, ◌↔◌, length, List, ℕ, None, Some, IsTrue, IsSome};
+ghost use Rattle.std.specs.List.{All};
+ghost use Rattle.std.specs.Prelude.{◌≡◌, [], ◌≢◌, ◌↔◌, length, List, ℕ, None, Some, IsTrue, IsSome};
 ghost use Rattle.std.specs.Io.KnownBytes.{Keeps};
 ghost use Rattle.calc_io.specs.Desk.{told_book, IsUnknown};
 ghost use Rattle.calc_model.specs.OverFields.{OverFields};
@@ -13,29 +14,34 @@ use crate::status::{BAD_WORDS, DESK_FAILED, NO_MEMORY, SINK_FAILED};
 use crate::words::book_name;
 use calc_io::{Desk, DeviceFault, Sink};
 use calc_model::Text;
+use calc_watch::Watcher;
 use std::alloc::Global;
 use std::thread::Threads;
 
 /// Runs the command of the words: takes a book and a script from the desk and writes the output of the
-/// script's lines to the sink. Answers the exit status.
+/// script's lines to the sink. The stock is what watchers the script may attach: they must have been told
+/// nothing, and are dropped at the end. Answers the exit status.
 ///
 /// 0: all is written and no line was refused; 1: a line was refused; 2: the words aren't of the command;
 /// 3: the desk failed; 4: the sink failed; 5: memory was refused; 6: the book is refused; 7: the script
 /// has more than 16,777,216 bytes.
-pub fn run<R: Threads + Sync, D: Desk, K: Sink>(
+pub fn run<R: Threads + Sync, D: Desk, K: Sink, W: Watcher>(
     rt: &R,
     alloc: Global,
     words: &[Text],
     desk: &mut D,
     sink: &mut K,
+    stock: Vec<W>,
 ) -> u8
+    requires stock { All (λ w. W.told w ≡ []) stock.items }
     ensures words { result ≡ BAD_WORDS ↔ book_name words.now ≡ None }
     ensures untouched { result ≡ BAD_WORDS → (desk.new ≡ desk.old) × (sink.new ≡ sink.old) }
     ensures ends { OverFields (λ field. (book script : List ℕ)
         → Serves (D.books desk.old) (D.script_left desk.old) words.now book script
-        → Ends result (K.written sink.old) (K.written sink.new) (ending field book script)) }
+        → Ends result (K.written sink.old) (K.written sink.new)
+        (ending field (length stock.items) book script)) }
     ensures ends_somehow { result ≢ BAD_WORDS
-        → EndsSomehow result (K.written sink.old) (K.written sink.new) }
+        → EndsSomehow (length stock.items) result (K.written sink.old) (K.written sink.new) }
 
     ensures takes { (book script : List ℕ)
         → Serves (D.books desk.old) (D.script_left desk.old) words.now book script
@@ -53,28 +59,32 @@ pub fn run<R: Threads + Sync, D: Desk, K: Sink>(
     ensures sink_faults { CountsFaults SINK_FAILED result (K.faults sink.old) (K.faults sink.new) }
     ensures sink_room { OverFields (λ field. (book script : List ℕ)
         → Serves (D.books desk.old) (D.script_left desk.old) words.now book script
-        → TakesWhole result (K.room sink.old) (length (ending field book script).written)
+        → TakesWhole result (K.room sink.old)
+        (length (ending field (length stock.items) book script).written)
         (K.faults sink.old) (K.faults sink.new)) }
 {
     match book_name(words) {
-        Some(name) => run_book(rt, alloc, name, desk, sink),
+        Some(name) => run_book(rt, alloc, name, desk, sink, stock),
         None => BAD_WORDS,
     }
 }
 
 /// Runs the command for the book of that name.
-fn run_book<R: Threads + Sync, D: Desk, K: Sink>(
+fn run_book<R: Threads + Sync, D: Desk, K: Sink, W: Watcher>(
     rt: &R,
     alloc: Global,
     name: &Text,
     desk: &mut D,
     sink: &mut K,
+    stock: Vec<W>,
 ) -> u8
+    requires stock { All (λ w. W.told w ≡ []) stock.items }
     ensures words { result ≢ BAD_WORDS }
     ensures ends { (book script : List ℕ)
         → Tells (D.books desk.old) (D.script_left desk.old) name.now book script
-        → Ends result (K.written sink.old) (K.written sink.new) (ending field_of book script) }
-    ensures ends_somehow { EndsSomehow result (K.written sink.old) (K.written sink.new) }
+        → Ends result (K.written sink.old) (K.written sink.new)
+        (ending field_of (length stock.items) book script) }
+    ensures ends_somehow { EndsSomehow (length stock.items) result (K.written sink.old) (K.written sink.new) }
 
     ensures takes { (book script : List ℕ)
         → Tells (D.books desk.old) (D.script_left desk.old) name.now book script
@@ -90,11 +100,12 @@ fn run_book<R: Threads + Sync, D: Desk, K: Sink>(
     ensures sink_faults { CountsFaults SINK_FAILED result (K.faults sink.old) (K.faults sink.new) }
     ensures sink_room { (book script : List ℕ)
         → Tells (D.books desk.old) (D.script_left desk.old) name.now book script
-        → TakesWhole result (K.room sink.old) (length (ending field_of book script).written)
+        → TakesWhole result (K.room sink.old)
+        (length (ending field_of (length stock.items) book script).written)
         (K.faults sink.old) (K.faults sink.new) }
 {
     match read_inputs(rt, alloc, desk, name) {
-        Ok(inputs) => finish(alloc, inputs, sink),
+        Ok(inputs) => finish(alloc, inputs, sink, stock),
         Err(DeviceFault::Failed(_)) => DESK_FAILED,
         Err(DeviceFault::NoMemory(_)) => NO_MEMORY,
     }

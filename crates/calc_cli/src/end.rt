@@ -1,4 +1,5 @@
-ghost use Rattle.std.specs.Prelude.{◌≡◌, ◌≢◌, ◌<◌, ◌≤◌, length, IfOk, List, Option, ℕ};
+ghost use Rattle.std.specs.List.{All};
+ghost use Rattle.std.specs.Prelude.{◌≡◌, ◌≢◌, ◌<◌, ◌≤◌, [], length, IfOk, List, Option, ℕ};
 ghost use Rattle.formula_reader.specs.Fields.{field_of};
 ghost use Rattle.calc_cli.specs.Ending.{book_refused, calculated};
 ghost use Rattle.calc_cli.specs.Inputs.{IsLeft, IsShort, ending_of};
@@ -7,6 +8,7 @@ ghost use Rattle.calc_cli.specs.Runs.{CountsFaults, Ends, LeavesInputs, TakesWho
 use crate::inputs::Inputs;
 use crate::limits::MOST_SCRIPT_BYTES;
 use crate::output::write_output;
+use crate::session::Session;
 use crate::status::{
     BAD_WORDS, BOOK_REFUSED, DESK_FAILED, DONE, LINE_REFUSED, NO_MEMORY, SCRIPT_TOO_LONG,
     SINK_FAILED,
@@ -15,14 +17,22 @@ use crate::written::write_all;
 use calc_addr::NoMemory;
 use calc_book::{BookCause, push_cause};
 use calc_io::{DeviceFault, Sink};
+use calc_watch::Watcher;
 use cell_map::CellMap;
 use std::alloc::Global;
 use workbook::Workbook;
 
 /// Ends a run by what the desk gave: writes the output, and answers the status.
-pub(crate) fn finish<K: Sink>(alloc: Global, inputs: Inputs, sink: &mut K) -> u8
-    requires { IsShort inputs }
-    ensures ends { Ends result (K.written sink.old) (K.written sink.new) (ending_of inputs) }
+pub(crate) fn finish<K: Sink, W: Watcher>(
+    alloc: Global,
+    inputs: Inputs,
+    sink: &mut K,
+    stock: Vec<W>,
+) -> u8
+    requires short { IsShort inputs }
+    requires stock { All (λ w. W.told w ≡ []) stock.items }
+    ensures ends { Ends result (K.written sink.old) (K.written sink.new)
+        (ending_of (length stock.items) inputs) }
     ensures words { result ≢ BAD_WORDS }
     ensures desk { result ≢ DESK_FAILED }
     ensures leaves { (script : List ℕ) → (book_left script_left : Option (List ℕ))
@@ -30,11 +40,12 @@ pub(crate) fn finish<K: Sink>(alloc: Global, inputs: Inputs, sink: &mut K) -> u8
         → LeavesInputs result script book_left script_left }
 
     ensures faults { CountsFaults SINK_FAILED result (K.faults sink.old) (K.faults sink.new) }
-    ensures room { TakesWhole result (K.room sink.old) (length (ending_of inputs).written)
+    ensures room { TakesWhole result (K.room sink.old)
+        (length (ending_of (length stock.items) inputs).written)
         (K.faults sink.old) (K.faults sink.new) }
 {
     match inputs {
-        Inputs::Loaded(book, script) => answer_script(alloc, book, &script, sink),
+        Inputs::Loaded(book, script) => answer_script(alloc, book, &script, sink, stock),
         Inputs::Refused(cause) => refuse_book(alloc, cause, sink),
         Inputs::TooLong => SCRIPT_TOO_LONG,
     }
@@ -76,10 +87,17 @@ fn refusal_of(alloc: Global, cause: BookCause) -> Result<Vec<u8>, NoMemory>
 
 /// Answers the script's lines over the book.
 #[tactic(auto, unfolding(crate::specs::Ending::calculated))]
-fn answer_script<K: Sink>(alloc: Global, book: CellMap, script: &[u8], sink: &mut K) -> u8
-    requires { length script.now ≤ MOST_SCRIPT_BYTES }
+fn answer_script<K: Sink, W: Watcher>(
+    alloc: Global,
+    book: CellMap,
+    script: &[u8],
+    sink: &mut K,
+    stock: Vec<W>,
+) -> u8
+    requires script { length script.now ≤ MOST_SCRIPT_BYTES }
+    requires stock { All (λ w. W.told w ≡ []) stock.items }
     ensures ends { Ends result (K.written sink.old) (K.written sink.new)
-        (calculated field_of book script.now) }
+        (calculated field_of (length stock.items) book script.now) }
     ensures words { result ≢ BAD_WORDS }
     ensures desk { result ≢ DESK_FAILED }
     ensures book { result ≢ BOOK_REFUSED }
@@ -87,11 +105,11 @@ fn answer_script<K: Sink>(alloc: Global, book: CellMap, script: &[u8], sink: &mu
 
     ensures faults { CountsFaults SINK_FAILED result (K.faults sink.old) (K.faults sink.new) }
     ensures room { TakesWhole result (K.room sink.old)
-        (length (calculated field_of book script.now).written)
+        (length (calculated field_of (length stock.items) book script.now).written)
         (K.faults sink.old) (K.faults sink.new) }
 {
-    let mut workbook = Workbook::load(alloc, book);
-    match write_output(alloc, &mut workbook, script, sink) {
+    let mut session = Session::new(alloc, Workbook::load(alloc, book), stock);
+    match write_output(alloc, &mut session, script, sink) {
         Ok(false) => DONE,
         Ok(true) => LINE_REFUSED,
         Err(DeviceFault::Failed(_)) => SINK_FAILED,

@@ -125,10 +125,11 @@ pub(crate) fn read_inputs<R: Threads + Sync, D: Desk>(
     desk: &mut D,
     name: &Text,
 ) -> Result<Inputs, DeviceFault>
-    ensures told { (book script : List ℕ)
+    ensures told { (stock : ℕ) (book script : List ℕ)
         → Tells (D.books desk.old) (D.script_left desk.old) name.now book script
-        → IfOk result (λ inputs. ending_of inputs ≡ ending field_of book script) }
-    ensures somehow { IfOk result (λ inputs. IsEnding (ending_of inputs)) }
+        → IfOk result (λ inputs. ending_of stock inputs ≡ ending field_of stock book script) }
+    ensures somehow { (stock : ℕ)
+        → IfOk result (λ inputs. IsEnding stock (ending_of stock inputs)) }
     ensures left { (book script : List ℕ)
         → Tells (D.books desk.old) (D.script_left desk.old) name.now book script
         → IfOk result (λ inputs.

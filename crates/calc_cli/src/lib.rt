@@ -10,6 +10,7 @@ mod limits;
 mod output;
 mod records;
 mod replies;
+mod session;
 mod status;
 mod words;
 mod written;

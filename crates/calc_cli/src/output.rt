@@ -11,94 +11,95 @@ ghost use Rattle.calc_cli.specs.Sessions.{Replies, session_of};
 
 use crate::limits::MOST_SCRIPT_BYTES;
 use crate::replies::{Reply, answer_line};
+use crate::session::Session;
 use crate::written::write_all;
 use calc_addr::NoMemory;
 use calc_io::{DeviceFault, Sink};
 use calc_script::{lines, read_line};
+use calc_watch::Watcher;
 use std::alloc::Global;
-use workbook::Workbook;
 
 /// Writes what the lines of a script write, one after the other, and answers whether one is refused.
-pub(crate) fn write_output<K: Sink>(
+pub(crate) fn write_output<K: Sink, W: Watcher>(
     alloc: Global,
-    workbook: &mut Workbook,
+    session: &mut Session<W>,
     script: &[u8],
     sink: &mut K,
 ) -> Result<bool, DeviceFault>
     requires { length script.now ≤ MOST_SCRIPT_BYTES }
     ensures ok { OnOk result (Appends (K.written sink.old) (K.written sink.new)
-        (output field_of (session_of workbook.old) 1 (lines_of script.now))) }
+        (output field_of (session_of session.old) 1 (lines_of script.now))) }
     ensures refused { IfOk result (λ refused. refused
-        ≡ has_refusal field_of (session_of workbook.old) 1 (lines_of script.now)) }
+        ≡ has_refusal field_of (session_of session.old) 1 (lines_of script.now)) }
     ensures err { OnErr result (GrowsWithin (K.written sink.old) (K.written sink.new)
-        (output field_of (session_of workbook.old) 1 (lines_of script.now))) }
+        (output field_of (session_of session.old) 1 (lines_of script.now))) }
 
     ensures later { K.faults sink.old ≤ K.faults sink.new }
     ensures cause { HasFailed result → Rose (K.faults sink.old) (K.faults sink.new) }
 
     ensures fits { HasRoom (K.room sink.old)
-        (length (output field_of (session_of workbook.old) 1 (lines_of script.now)))
+        (length (output field_of (session_of session.old) 1 (lines_of script.now)))
         → HasFailed result → ⊥ }
     ensures no_fault { HasRoom (K.room sink.old)
-        (length (output field_of (session_of workbook.old) 1 (lines_of script.now)))
+        (length (output field_of (session_of session.old) 1 (lines_of script.now)))
         → K.faults sink.new ≡ K.faults sink.old }
 {
     let mut refused = false;
     let mut number = 1;
     for line in lines(script) {
-        refused |= write_line(alloc, workbook, number, line, sink)?;
+        refused |= write_line(alloc, session, number, line, sink)?;
         number += 1;
     }
     Ok(refused)
 }
 
 /// Does what a line says and writes what it writes. Answers whether it is refused.
-fn write_line<K: Sink>(
+fn write_line<K: Sink, W: Watcher>(
     alloc: Global,
-    workbook: &mut Workbook,
+    session: &mut Session<W>,
     number: usize,
     line: &[u8],
     sink: &mut K,
 ) -> Result<bool, DeviceFault>
     ensures ok { OnOk result (Appends (K.written sink.old) (K.written sink.new)
-        (answer (session_of workbook.old) number (line_of field_of line.now)).text) }
+        (answer (session_of session.old) number (line_of field_of line.now)).text) }
     ensures refused { IfOk result (λ refused. refused
-        ≡ (answer (session_of workbook.old) number (line_of field_of line.now)).refused) }
-    ensures session { OnOk result (session_of workbook.new
-        ≡ (answer (session_of workbook.old) number (line_of field_of line.now)).session) }
+        ≡ (answer (session_of session.old) number (line_of field_of line.now)).refused) }
+    ensures session { OnOk result (session_of session.new
+        ≡ (answer (session_of session.old) number (line_of field_of line.now)).session) }
     ensures err { OnErr result (GrowsWithin (K.written sink.old) (K.written sink.new)
-        (answer (session_of workbook.old) number (line_of field_of line.now)).text) }
+        (answer (session_of session.old) number (line_of field_of line.now)).text) }
 
     ensures later { K.faults sink.old ≤ K.faults sink.new }
     ensures cause { HasFailed result → Rose (K.faults sink.old) (K.faults sink.new) }
 
     ensures room { OnOk result (RoomFalls (K.room sink.old) (K.room sink.new)
-        (length (answer (session_of workbook.old) number (line_of field_of line.now)).text)) }
+        (length (answer (session_of session.old) number (line_of field_of line.now)).text)) }
     ensures fits { HasRoom (K.room sink.old)
-        (length (answer (session_of workbook.old) number (line_of field_of line.now)).text)
+        (length (answer (session_of session.old) number (line_of field_of line.now)).text)
         → HasFailed result → ⊥ }
     ensures no_fault { HasRoom (K.room sink.old)
-        (length (answer (session_of workbook.old) number (line_of field_of line.now)).text)
+        (length (answer (session_of session.old) number (line_of field_of line.now)).text)
         → K.faults sink.new ≡ K.faults sink.old }
 {
-    match reply_to(alloc, workbook, number, line) {
+    match reply_to(alloc, session, number, line) {
         Ok(reply) => write_reply(sink, &reply),
         Err(refused) => Err(DeviceFault::NoMemory(refused)),
     }
 }
 
 /// Does what a line says.
-fn reply_to(
+fn reply_to<W: Watcher>(
     alloc: Global,
-    workbook: &mut Workbook,
+    session: &mut Session<W>,
     number: usize,
     line: &[u8],
 ) -> Result<Reply, NoMemory>
-    ensures { Replies result (session_of workbook.new)
-        (answer (session_of workbook.old) number (line_of field_of line.now)) }
+    ensures { Replies result (session_of session.new)
+        (answer (session_of session.old) number (line_of field_of line.now)) }
 {
     let line = read_line(alloc, line)?;
-    answer_line(alloc, workbook, number, &line)
+    answer_line(alloc, session, number, &line)
 }
 
 /// Writes what a line writes, and answers whether the line is refused.

@@ -9,9 +9,11 @@ ghost use Rattle.calc_model.specs.Val.{val};
 
 use crate::cell_texts::{Held, Shown};
 use crate::records::print_area;
+use crate::session::Session;
 use calc_addr::{Area, NoMemory};
 use calc_model::Edit;
 use calc_script::{Cause, Command, Line};
+use calc_watch::Watcher;
 use itoa::Buffer;
 use std::alloc::{AllocError, Global};
 use workbook::{EditFault, Workbook};
@@ -25,55 +27,58 @@ pub(crate) struct Reply {
 
 /// Does what a line says.
 #[tactic(auto, unfolding(crate::specs::Output::answer))]
-pub(crate) fn answer_line(
+pub(crate) fn answer_line<W: Watcher>(
     alloc: Global,
-    workbook: &mut Workbook,
+    session: &mut Session<W>,
     number: usize,
     line: &Line,
 ) -> Result<Reply, NoMemory>
     requires { is_makeable_line line.now ≡ true }
-    ensures { Replies result (session_of workbook.new)
-        (answer (session_of workbook.old) number line.now) }
+    ensures { Replies result (session_of session.new)
+        (answer (session_of session.old) number line.now) }
 {
     match line {
         Line::Nothing => Ok(accept(Vec::new(alloc))),
-        Line::Do(command) => do_command(alloc, workbook, number, command),
+        Line::Do(command) => do_command(alloc, session, number, command),
         Line::Refused(cause) => refuse(alloc, number, *cause),
     }
 }
 
-fn do_command(
+fn do_command<W: Watcher>(
     alloc: Global,
-    workbook: &mut Workbook,
+    session: &mut Session<W>,
     number: usize,
     command: &Command,
 ) -> Result<Reply, NoMemory>
     requires { is_makeable_command command.now ≡ true }
-    ensures { Replies result (session_of workbook.new)
-        (done (session_of workbook.old) number command.now) }
+    ensures { Replies result (session_of session.new)
+        (done (session_of session.old) number command.now) }
 {
     match command {
-        Command::Edit(edit) => make_edit(alloc, workbook, number, edit),
-        Command::Calc => recalculate(alloc, workbook),
-        Command::Print(area) => print_shown(alloc, workbook, *area),
-        Command::Formulas(area) => print_held(alloc, workbook, *area),
+        Command::Edit(edit) => make_edit(alloc, session, number, edit),
+        Command::Calc => recalculate(alloc, session),
+        Command::Print(area) => print_shown(alloc, session, *area),
+        Command::Formulas(area) => print_held(alloc, session, *area),
+        Command::Watch(area) => watch(alloc, session, number, *area),
+        Command::Told => tell(alloc, session, number),
+        Command::Unwatch => unwatch(alloc, session, number),
         // The other commands aren't built yet.
-        _ => refuse(alloc, number, Cause::BadCommand),
+        Command::Groups { .. } | Command::Blocks { .. } => refuse(alloc, number, Cause::BadCommand),
     }
 }
 
-fn make_edit(
+fn make_edit<W: Watcher>(
     alloc: Global,
-    workbook: &mut Workbook,
+    session: &mut Session<W>,
     number: usize,
     edit: &Edit,
 ) -> Result<Reply, NoMemory>
     requires { is_makeable edit.now ≡ true }
-    ensures { Replies result (session_of workbook.new) (edited (session_of workbook.old) number
-        edit.now (step (session_of workbook.old).book edit.now)) }
+    ensures { Replies result (session_of session.new) (edited (session_of session.old) number
+        edit.now (step (session_of session.old).book edit.now)) }
 {
-    match workbook.edit(alloc, edit) {
-        Ok(()) => Ok(accept(edit_text(alloc, workbook, edit)?)),
+    match session.workbook.edit(alloc, edit) {
+        Ok(()) => Ok(accept(edit_text(alloc, &session.workbook, edit)?)),
         Err(EditFault::Refused(cause)) => refuse(alloc, number, Cause::Edit(cause)),
         // A workbook is dead after want of memory alone.
         Err(EditFault::Dead | EditFault::NoMemory) => Err(AllocError),
@@ -95,11 +100,14 @@ fn edit_text(alloc: Global, workbook: &Workbook, edit: &Edit) -> Result<Vec<u8>,
     Ok(text)
 }
 
-fn recalculate(alloc: Global, workbook: &mut Workbook) -> Result<Reply, NoMemory>
-    ensures { Replies result (session_of workbook.new) (accepted
-        (recalculated (session_of workbook.old)) (recalculation (session_of workbook.old))) }
+fn recalculate<W: Watcher>(
+    alloc: Global,
+    session: &mut Session<W>,
+) -> Result<Reply, NoMemory>
+    ensures { Replies result (session_of session.new) (accepted
+        (recalculated (session_of session.old)) (recalculation (session_of session.old))) }
 {
-    let done = workbook.recalculate(alloc)?;
+    let done = session.recalculate(alloc)?;
     let mut text = Vec::new(alloc);
     text.extend_from_slice(b"recalculated ")?;
     text.extend_from_slice(Buffer::new().format(done.stale).as_bytes())?;
@@ -107,22 +115,81 @@ fn recalculate(alloc: Global, workbook: &mut Workbook) -> Result<Reply, NoMemory
     Ok(accept(text))
 }
 
-fn print_shown(alloc: Global, workbook: &mut Workbook, area: Area) -> Result<Reply, NoMemory>
-    ensures { Replies result (session_of workbook.new) (accepted
-        (recalculated (session_of workbook.old))
-        (printed_area (shown_texts (val (session_of workbook.old).book)) area)) }
+fn print_shown<W: Watcher>(
+    alloc: Global,
+    session: &mut Session<W>,
+    area: Area,
+) -> Result<Reply, NoMemory>
+    ensures { Replies result (session_of session.new) (accepted
+        (recalculated (session_of session.old))
+        (printed_area (shown_texts (val (session_of session.old).book)) area)) }
 {
-    workbook.recalculate(alloc)?;
-    let shown = Shown { workbook };
+    session.recalculate(alloc)?;
+    let shown = Shown {
+        workbook: &session.workbook,
+    };
     Ok(accept(print_area(alloc, &shown, area)?))
 }
 
-fn print_held(alloc: Global, workbook: &Workbook, area: Area) -> Result<Reply, NoMemory>
-    ensures { Replies result (session_of workbook.now) (accepted (session_of workbook.now)
-        (printed_area (held_texts (session_of workbook.now).book) area)) }
+fn print_held<W: Watcher>(
+    alloc: Global,
+    session: &Session<W>,
+    area: Area,
+) -> Result<Reply, NoMemory>
+    ensures { Replies result (session_of session.now) (accepted (session_of session.now)
+        (printed_area (held_texts (session_of session.now).book) area)) }
 {
-    let held = Held { workbook };
+    let held = Held {
+        workbook: &session.workbook,
+    };
     Ok(accept(print_area(alloc, &held, area)?))
+}
+
+fn watch<W: Watcher>(
+    alloc: Global,
+    session: &mut Session<W>,
+    number: usize,
+    area: Area,
+) -> Result<Reply, NoMemory>
+    ensures { Replies result (session_of session.new)
+        (done (session_of session.old) number (Command.Watch area)) }
+{
+    if session.watch(alloc, area)? {
+        Ok(accept(Vec::new(alloc)))
+    } else {
+        refuse(alloc, number, Cause::NoWatcher)
+    }
+}
+
+fn tell<W: Watcher>(
+    alloc: Global,
+    session: &Session<W>,
+    number: usize,
+) -> Result<Reply, NoMemory>
+    ensures { Replies result (session_of session.now)
+        (done (session_of session.now) number Command.Told) }
+{
+    let mut text = Vec::new(alloc);
+    if session.describe(&mut text)? {
+        Ok(accept(text))
+    } else {
+        refuse(alloc, number, Cause::NoWatcher)
+    }
+}
+
+fn unwatch<W: Watcher>(
+    alloc: Global,
+    session: &mut Session<W>,
+    number: usize,
+) -> Result<Reply, NoMemory>
+    ensures { Replies result (session_of session.new)
+        (done (session_of session.old) number Command.Unwatch) }
+{
+    if session.unwatch() {
+        Ok(accept(Vec::new(alloc)))
+    } else {
+        refuse(alloc, number, Cause::NoWatcher)
+    }
 }
 
 fn accept(text: Vec<u8>) -> Reply

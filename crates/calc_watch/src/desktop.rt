@@ -1,8 +1,7 @@
-ghost use Rattle.calc_addr.specs.Places.{cell_count};
 ghost use Rattle.calc_model.specs.Meanings.{values_in};
 ghost use Rattle.calc_watch.specs.Reports.{IsToldInPart, described, told_all, told_first, watched};
 ghost use Rattle.std.specs.List.{flat_map};
-ghost use Rattle.std.specs.Prelude.{OnErr, OnOk, [], length, map, nat_lt, take, ℕ, ◌++◌, ◌-◌, ◌∷◌, ◌≡◌, ◌≤◌};
+ghost use Rattle.std.specs.Prelude.{OnErr, OnOk, [], length, map, nat_lt, take, ℕ, ◌++◌, ◌-◌, ◌∷◌, ◌≡◌};
 
 use crate::known::{changes, values_in};
 use crate::report::Report;
@@ -11,9 +10,6 @@ use calc_addr::{Area, NoMemory};
 use calc_model::{Value, Values};
 use std::alloc::Global;
 use std::marker::Model;
-
-/// The most cells of an area that is watched.
-pub const MOST_WATCHED: u64 = 4_096;
 
 /// A watcher of an area, with the values of the area's cells that it last knew, in area order.
 #[derive(Drop)]
@@ -74,7 +70,6 @@ impl<W: Watcher> Desktop<W> {
         area: Area,
         values: &V,
     ) -> Result<(), NoMemory>
-        requires { cell_count area ≤ MOST_WATCHED }
         ensures ok { OnOk result (self.new ≡ self.old
             ++ watched area (values_in (V.values values.now) area) (W.told watcher) ∷ []) }
         ensures err { OnErr result (self.new ≡ self.old) }

@@ -8,8 +8,8 @@ mod pad;
 mod report;
 mod watcher;
 
-pub use desktop::{Desktop, MOST_WATCHED};
+pub use desktop::Desktop;
 pub use laws::values_are_told_apart;
-pub use pad::Pad;
+pub use pad::{Pad, pads};
 pub use report::Report;
 pub use watcher::Watcher;

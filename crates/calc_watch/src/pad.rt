@@ -1,7 +1,8 @@
 ghost use Rattle.calc_addr.specs.Addresses.{address};
 ghost use Rattle.calc_watch.specs.Reports.{described};
 ghost use Rattle.csv.specs.Records.{fields_of};
-ghost use Rattle.std.specs.Prelude.{IfOk, OnOk, [], ◌∷◌, ◌≡◌};
+ghost use Rattle.std.specs.List.{All};
+ghost use Rattle.std.specs.Prelude.{IfOk, OnOk, [], length, ◌∷◌, ◌≡◌};
 
 use crate::report::Report;
 use crate::watcher::Watcher;
@@ -37,6 +38,18 @@ impl Pad {
             reports: Vec::new(alloc),
         }
     }
+}
+
+/// So many pads that were told nothing.
+pub fn pads(alloc: Global, count: usize) -> Result<Vec<Pad>, NoMemory>
+    ensures told { IfOk result (λ pads. All (λ pad. pad ≡ []) pads.items) }
+    ensures count { IfOk result (λ pads. length pads.items ≡ count) }
+{
+    let mut pads = Vec::new(alloc);
+    for _ in 0..count {
+        pads.push(Pad::new(alloc))?;
+    }
+    Ok(pads)
 }
 
 impl Watcher for Pad {

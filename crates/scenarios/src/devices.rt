@@ -3,6 +3,7 @@ use crate::runs::{books, bytes, outcome, text, words};
 use calc_cli::{message, run};
 use calc_io::{MemoryDesk, MemorySink, PipeDesk, PipeSink, SteadyDesk, SteadySink};
 use calc_model::Text;
+use calc_watch::pads;
 use std::alloc::{AllocError, Global};
 use std::test::Fail;
 use std::thread::Threads;
@@ -19,7 +20,7 @@ fn a_missing_book_ends_with_3(rt: HostRuntime) -> Result<(), Fail> {
     let alloc = rt.alloc();
     let mut desk = SteadyDesk::new(Vec::new(alloc), bytes(alloc, SCRIPT)?);
     let mut sink = SteadySink::new(alloc, 64)?;
-    assert_eq!(rt; run(&rt, alloc, &words(alloc)?, &mut desk, &mut sink), 3);
+    assert_eq!(rt; run(&rt, alloc, &words(alloc)?, &mut desk, &mut sink, pads(alloc, 0)?), 3);
     assert_eq!(rt; sink.written(), b"".as_slice());
     Ok(())
 }
@@ -33,7 +34,7 @@ fn bad_words_end_with_2(rt: HostRuntime) -> Result<(), Fail> {
     for words in [option, two, none] {
         let mut desk = SteadyDesk::new(books(alloc, bytes(alloc, BOOK)?)?, bytes(alloc, SCRIPT)?);
         let mut sink = SteadySink::new(alloc, 64)?;
-        assert_eq!(rt; run(&rt, alloc, &words, &mut desk, &mut sink), 2);
+        assert_eq!(rt; run(&rt, alloc, &words, &mut desk, &mut sink, pads(alloc, 0)?), 2);
         assert_eq!(rt; sink.written(), b"".as_slice());
     }
     Ok(())
@@ -65,7 +66,7 @@ fn failing(
         3,
     );
     let mut sink = MemorySink::new(alloc, 64, vec![in alloc; sink_call]?, 3)?;
-    let status = run(rt, alloc, &words(alloc)?, &mut desk, &mut sink);
+    let status = run(rt, alloc, &words(alloc)?, &mut desk, &mut sink, pads(alloc, 0)?);
     Ok((status, Vec::from_slice(alloc, sink.written())?))
 }
 
@@ -116,7 +117,7 @@ fn real_files_serve(rt: HostRuntime) -> Result<(), Fail> {
     let words = vec![in alloc; text(alloc, name)?]?;
     let mut desk = PipeDesk::new(&rt, fs::open(&rt, &script)?);
     let mut sink = PipeSink::new(fs::create(&rt, &output)?);
-    let status = run(&rt, alloc, &words, &mut desk, &mut sink);
+    let status = run(&rt, alloc, &words, &mut desk, &mut sink, pads(alloc, 0)?);
     drop(sink);
     let written = fs::read(&rt, &output)?;
     fs::remove_dir_all(&rt, &folder)?;

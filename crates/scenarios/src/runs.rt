@@ -2,6 +2,7 @@
 use calc_cli::run;
 use calc_io::{SteadyDesk, SteadySink};
 use calc_model::Text;
+use calc_watch::pads;
 use std::alloc::{AllocError, Global};
 use std::process::Abort;
 use std::thread::Threads;
@@ -39,7 +40,7 @@ pub(crate) fn outcome(
 ) -> Result<(u8, Vec<u8>), AllocError> {
     let mut desk = SteadyDesk::new(books(alloc, book)?, script);
     let mut sink = SteadySink::new(alloc, ROOM)?;
-    let status = run(rt, alloc, &words(alloc)?, &mut desk, &mut sink);
+    let status = run(rt, alloc, &words(alloc)?, &mut desk, &mut sink, pads(alloc, 0)?);
     Ok((status, Vec::from_slice(alloc, sink.written())?))
 }
 

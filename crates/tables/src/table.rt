@@ -2,6 +2,7 @@ use byte_cuts::lines;
 use calc_cli::run;
 use calc_io::{SteadyDesk, SteadySink};
 use calc_model::Text;
+use calc_watch::pads;
 use std::alloc::{AllocError, Global};
 use std::thread::Threads;
 
@@ -16,6 +17,9 @@ const STATUS: &[u8] = b"status ";
 
 /// The most bytes that a run may write.
 const ROOM: usize = 65_536;
+
+/// How many watchers a script may attach.
+const WATCHERS: usize = 8;
 
 /// A row: a book, a script, and what its run prints.
 #[derive(Drop)]
@@ -54,7 +58,8 @@ impl Row {
         let words = vec![in alloc; name.copy(alloc)?]?;
         let mut desk = SteadyDesk::new(vec![in alloc; (name, self.book)]?, self.script);
         let mut sink = SteadySink::new(alloc, ROOM)?;
-        let ended = run(rt, alloc, &words, &mut desk, &mut sink);
+        let stock = pads(alloc, WATCHERS)?;
+        let ended = run(rt, alloc, &words, &mut desk, &mut sink, stock);
         if sink.written() == self.prints.as_slice() && is_number(ended, status) {
             return Ok(None);
         }

@@ -1,5 +1,5 @@
 use Rattle.calc_cli.specs.declared.status.TheConstants.{DESK_FAILED, NO_MEMORY}
-use Rattle.std.proofs.Common.{refl}
+use Rattle.std.proofs.Common.{length, refl}
 use Rattle.calc_cli.proofs.Ended.{disturbed}
 use Rattle.calc_cli.proofs.command.run_book.Goals as goal
 
@@ -12,7 +12,4 @@ returns-in-Ok-clause-takes g c =
     }
 
 pub returns-in-Err-Failed-clause-ends_somehow : goal.returns-in-Err-Failed-clause-ends_somehow
-returns-in-Err-Failed-clause-ends_somehow g c = disturbed DESK_FAILED (g.K.Sink.written c.args.sink.now) (λ calm. calm.desk refl)
-
-pub returns-in-Err-NoMemory-clause-ends_somehow : goal.returns-in-Err-NoMemory-clause-ends_somehow
-returns-in-Err-NoMemory-clause-ends_somehow g c = disturbed NO_MEMORY (g.K.Sink.written c.args.sink.now) (λ calm. calm.memory refl)
+returns-in-Err-Failed-clause-ends_somehow g c = disturbed (length c.args.stock.items) DESK_FAILED (g.K.Sink.written c.args.sink.now) (λ calm. calm.desk refl)

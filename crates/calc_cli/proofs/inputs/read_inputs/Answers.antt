@@ -10,45 +10,48 @@ use Rattle.calc_cli.proofs.inputs.read_inputs.Goals as goal
 
 pub returns-in-Err-clause-told : goal.returns-in-Err-clause-told
 returns-in-Err-clause-told g c =
-    λ book script told.
-    ends_refused book script c.in-Err.cause (subst (λ found. IsLoaded found book) c.in-Err.is (c.in_ok-book.ensures.told book told.has_book))
+    λ stock book script told.
+    ends_refused stock book script c.in-Err.cause (subst (λ found. IsLoaded found book) c.in-Err.is (c.in_ok-book.ensures.told book told.has_book))
 
 pub returns-in-Some-clause-told : goal.returns-in-Some-clause-told
 returns-in-Some-clause-told g c =
-    λ book script told.
+    λ stock book script told.
     let loaded : IsLoaded (Ok c.in-Ok.book) book = subst (λ found. IsLoaded found book) c.in-Ok.is (c.in_ok-book.ensures.told book told.has_book) in
     let kept = still_told (g.D.Desk.script_left c.args.desk.now) (g.D.Desk.script_left c.load_book.new.desk) script c.in_ok-book.ensures.same_script told.has_script in
     let taken : IsTaken (Some c.in-Some.script) script = subst (λ bytes. IsTaken bytes script) c.in-Some.is (c.in_ok-script-in-Ok.ensures.told script kept) in
-    ends_answered book script c.in-Some.script.items c.in-Ok.book loaded.0 taken.0 loaded.1 taken.1
+    ends_answered stock book script c.in-Some.script.items c.in-Ok.book loaded.0 taken.0 loaded.1 taken.1
 
 pub returns-in-None-clause-told : goal.returns-in-None-clause-told
 returns-in-None-clause-told g c =
-    λ book script told.
+    λ stock book script told.
     let loaded : IsLoaded (Ok c.in-Ok.book) book = subst (λ found. IsLoaded found book) c.in-Ok.is (c.in_ok-book.ensures.told book told.has_book) in
     let kept = still_told (g.D.Desk.script_left c.args.desk.now) (g.D.Desk.script_left c.load_book.new.desk) script c.in_ok-book.ensures.same_script told.has_script in
     let taken : IsTaken None script = subst (λ bytes. IsTaken bytes script) c.in-None.is (c.in_ok-script-in-Ok.ensures.told script kept) in
-    ends_too_long book script loaded.0 taken
+    ends_too_long stock book script loaded.0 taken
 
 pub returns-in-Err-clause-somehow : goal.returns-in-Err-clause-somehow
 returns-in-Err-clause-somehow g c =
+    λ stock.
     let book = c.in_ok-book.ensures.some_book in
-    (field_of, field_reads, book.0, [], ends_refused book.0 [] c.in-Err.cause (subst (λ found. IsLoaded found book.0) c.in-Err.is book.1))
+    (field_of, field_reads, book.0, [], ends_refused stock book.0 [] c.in-Err.cause (subst (λ found. IsLoaded found book.0) c.in-Err.is book.1))
 
 pub returns-in-Some-clause-somehow : goal.returns-in-Some-clause-somehow
 returns-in-Some-clause-somehow g c =
+    λ stock.
     let book = c.in_ok-book.ensures.some_book in
     let script = c.in_ok-script-in-Ok.ensures.some_script in
     let loaded : IsLoaded (Ok c.in-Ok.book) book.0 = subst (λ found. IsLoaded found book.0) c.in-Ok.is book.1 in
     let taken : IsTaken (Some c.in-Some.script) script.0 = subst (λ bytes. IsTaken bytes script.0) c.in-Some.is script.1 in
-    (field_of, field_reads, book.0, script.0, ends_answered book.0 script.0 c.in-Some.script.items c.in-Ok.book loaded.0 taken.0 loaded.1 taken.1)
+    (field_of, field_reads, book.0, script.0, ends_answered stock book.0 script.0 c.in-Some.script.items c.in-Ok.book loaded.0 taken.0 loaded.1 taken.1)
 
 pub returns-in-None-clause-somehow : goal.returns-in-None-clause-somehow
 returns-in-None-clause-somehow g c =
+    λ stock.
     let book = c.in_ok-book.ensures.some_book in
     let script = c.in_ok-script-in-Ok.ensures.some_script in
     let loaded : IsLoaded (Ok c.in-Ok.book) book.0 = subst (λ found. IsLoaded found book.0) c.in-Ok.is book.1 in
     let taken : IsTaken None script.0 = subst (λ bytes. IsTaken bytes script.0) c.in-None.is script.1 in
-    (field_of, field_reads, book.0, script.0, ends_too_long book.0 script.0 loaded.0 taken)
+    (field_of, field_reads, book.0, script.0, ends_too_long stock book.0 script.0 loaded.0 taken)
 
 pub returns-in-Some-clause-left : goal.returns-in-Some-clause-left
 returns-in-Some-clause-left g c =

@@ -8,8 +8,8 @@ use Rattle.calc_cli.specs.Sessions.{Replies, session_of}
 use Rattle.calc_cli.proofs.output.reply_to.Goals as goal
 
 pub returns : goal.returns
-returns c =
-    subst (λ line. Replies c.answer_line.result (session_of c.answer_line.new.workbook) (answer (session_of c.args.workbook.now) c.args.number line)) (c.in_ok-line.ensures field_of field_reads) c.answer_line.ensures
+returns g c =
+    subst (λ line. Replies c.answer_line.result (session_of c.answer_line.new.session) (answer (session_of c.args.session.now) c.args.number line)) (c.in_ok-line.ensures field_of field_reads) c.answer_line.ensures
 
 pub answer_line-requires : goal.answer_line-requires
-answer_line-requires c = subst (λ line. is_makeable_line line ≡ true) (sym (c.in_ok-line.ensures field_of field_reads)) (make_small_books field_of c.args.line.now)
+answer_line-requires g c = subst (λ line. is_makeable_line line ≡ true) (sym (c.in_ok-line.ensures field_of field_reads)) (make_small_books field_of c.args.line.now)

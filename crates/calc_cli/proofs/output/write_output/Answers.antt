@@ -14,8 +14,8 @@ use Rattle.calc_cli.proofs.output.write_output.Goals as goal
 pub returns-in_err-refused-clause-err : goal.returns-in_err-refused-clause-err
 returns-in_err-refused-clause-err g c =
     let sink = g.K.Sink in
-    let whole = output field_of (session_of c.args.workbook.now) 1 (lines_of c.args.script.now) in
-    let now = session_of c.loop-line.workbook in
+    let whole = output field_of (session_of c.args.session.now) 1 (lines_of c.args.script.now) in
+    let now = session_of c.loop-line.session in
     let here = answer now c.loop-line.number (line_of field_of c.in-Some.line.now) in
     at_error c.from_residual.result (GrowsWithin (sink.written c.args.sink.now) (sink.written c.write_line.new.sink) whole)
     (stopped_inside (sink.written c.args.sink.now) (sink.written c.loop-line.sink) (sink.written c.write_line.new.sink) whole here.text (output field_of here.session (c.loop-line.number + 1) c.next.new.self)
@@ -26,7 +26,7 @@ pub returns-in_err-refused-clause-fits : goal.returns-in_err-refused-clause-fits
 returns-in_err-refused-clause-fits g c =
     λ has.
     let sink = g.K.Sink in
-    let now = session_of c.loop-line.workbook in
+    let now = session_of c.loop-line.session in
     let here = answer now c.loop-line.number (line_of field_of c.in-Some.line.now) in
     let room : HasRoom (sink.room c.loop-line.sink) (length here.text) = room_for_part (sink.room c.loop-line.sink) here.text (output field_of here.session (c.loop-line.number + 1) c.next.new.self) (subst (λ lines. HasRoom (sink.room c.loop-line.sink) (length (output field_of now c.loop-line.number lines))) c.in-Some.ensures.steps (c.loop-line.invariant.room has)) in
     search (rules, c.in_err-refused.ensures.fits room)
@@ -35,7 +35,7 @@ pub returns-in_err-refused-clause-no_fault : goal.returns-in_err-refused-clause-
 returns-in_err-refused-clause-no_fault g c =
     λ has.
     let sink = g.K.Sink in
-    let now = session_of c.loop-line.workbook in
+    let now = session_of c.loop-line.session in
     let here = answer now c.loop-line.number (line_of field_of c.in-Some.line.now) in
     c.in_err-refused.ensures.no_fault (room_for_part (sink.room c.loop-line.sink) here.text (output field_of here.session (c.loop-line.number + 1) c.next.new.self) (subst (λ lines. HasRoom (sink.room c.loop-line.sink) (length (output field_of now c.loop-line.number lines))) c.in-Some.ensures.steps (c.loop-line.invariant.room has)))
     ∙ c.loop-line.invariant.no_fault has
@@ -49,17 +49,17 @@ pub loop-line-preserved : goal.loop-line-preserved
 loop-line-preserved g c =
     let sink = g.K.Sink in
     let inv = c.loop-line.invariant in
-    let whole = output field_of (session_of c.args.workbook.now) 1 (lines_of c.args.script.now) in
-    let now = session_of c.loop-line.workbook in
+    let whole = output field_of (session_of c.args.session.now) 1 (lines_of c.args.script.now) in
+    let now = session_of c.loop-line.session in
     let here = answer now c.loop-line.number (line_of field_of c.in-Some.line.now) in
-    let next : session_of c.write_line.new.workbook ≡ here.session = c.in_ok-refused.ensures.session in
+    let next : session_of c.write_line.new.session ≡ here.session = c.in_ok-refused.ensures.session in
     let number = c.loop-line.number + 1 in
     let rest = output field_of here.session number c.next.new.self in
-    let rest_is : output field_of here.session number c.next.new.self ≡ output field_of (session_of c.write_line.new.workbook) number c.next.new.self = ap (λ (s : Session). output field_of s number c.next.new.self) (sym next) in
+    let rest_is : output field_of here.session number c.next.new.self ≡ output field_of (session_of c.write_line.new.session) number c.next.new.self = ap (λ (s : Session). output field_of s number c.next.new.self) (sym next) in
     let room_before : HasRoom (sink.room c.args.sink.now) (length whole) → HasRoom (sink.room c.loop-line.sink) (length (here.text ++ rest)) = λ has. subst (λ lines. HasRoom (sink.room c.loop-line.sink) (length (output field_of now c.loop-line.number lines))) c.in-Some.ensures.steps (inv.room has) in
     record {
       count = search rules;
-      refused = refused_more c.loop-line.refused c.in_ok-refused.field-0 here.refused (has_refusal field_of (session_of c.write_line.new.workbook) number c.next.new.self) (has_refusal field_of here.session number c.next.new.self) _ c.in_ok-refused.ensures.refused (ap (λ (s : Session). has_refusal field_of s number c.next.new.self) next) (subst (λ lines. (c.loop-line.refused || has_refusal field_of now c.loop-line.number lines) ≡ has_refusal field_of (session_of c.args.workbook.now) 1 (lines_of c.args.script.now)) c.in-Some.ensures.steps inv.refused);
+      refused = refused_more c.loop-line.refused c.in_ok-refused.field-0 here.refused (has_refusal field_of (session_of c.write_line.new.session) number c.next.new.self) (has_refusal field_of here.session number c.next.new.self) _ c.in_ok-refused.ensures.refused (ap (λ (s : Session). has_refusal field_of s number c.next.new.self) next) (subst (λ lines. (c.loop-line.refused || has_refusal field_of now c.loop-line.number lines) ≡ has_refusal field_of (session_of c.args.session.now) 1 (lines_of c.args.script.now)) c.in-Some.ensures.steps inv.refused);
       written = subst (IsWrittenTo (sink.written c.args.sink.now) (sink.written c.write_line.new.sink) whole) rest_is
           (part_written (sink.written c.args.sink.now) (sink.written c.loop-line.sink) (sink.written c.write_line.new.sink) whole here.text rest
           (subst (λ lines. IsWrittenTo (sink.written c.args.sink.now) (sink.written c.loop-line.sink) whole (output field_of now c.loop-line.number lines)) c.in-Some.ensures.steps inv.written)

@@ -11,8 +11,8 @@ use Rattle.calc_cli.proofs.output.write_output.Given as goal
 abbrev pub invariant-loop-line : goal.invariant-loop-line
 invariant-loop-line g l =
     let sink = g.K.Sink in
-    let first = session_of l.initial.workbook in
-    let now = session_of l.workbook in
+    let first = session_of l.initial.session in
+    let now = session_of l.session in
     let whole = output field_of first 1 (lines_of l.script) in
     record {
       count : l.number + length l.line-iterator ≡ 1 + length (lines_of l.script);
