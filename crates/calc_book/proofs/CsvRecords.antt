@@ -1,7 +1,7 @@
 -- The records that csv's reader has left: each one takes a byte at least, so that the bytes bound their number.
 use Rattle.std.proofs.Common.{◌≡◌, ℕ, zero, suc, ◌+◌, ◌<◌, ◌≤◌, ◌==◌, ◌||◌, Bool, true, false, cond, List, [], ◌∷◌, ◌++◌, length, Option, Some, None, refl, sym, ap, subst, ◌∙◌, arith}
 use Rattle.csv.specs.Machine.{Read, ends_at_end, fields_after, field_after, is_end, next_record, step}
-use Rattle.csv.specs.Reading.{Reached, ReadRecord, default_config, records_from, records_next, source_of, strip_bom}
+use Rattle.csv.specs.Reading.{AreRecords, Reached, ReadRecord, default_config, records_from, records_next, source_of, strip_bom}
 use Rattle.csv.specs.declared.parser.Action.{Action}
 use Rattle.csv.specs.declared.parser.Action.TheVariants as act
 use Rattle.csv.specs.declared.parser.State.{State}
@@ -9,6 +9,7 @@ use Rattle.csv.specs.declared.parser.State.TheVariants as st
 use Rattle.csv.specs.declared.reader.Reader.{Reader}
 use Rattle.csv.proofs.ReadFacts.{rows-end, rows-more}
 use Rattle.calc_book.specs.BookCells.{records_in}
+use Rattle.calc_book.specs.CsvLaw.{ReadsAsCsv}
 
 -- a state between two records
 abbrev pub between : State → Type 0
@@ -157,3 +158,24 @@ module _ {R : Type 0} (rem : R → Option (List ℕ)) (before after : Reader R) 
   pub none_read : (all : List (List (List ℕ))) (fields : List (List ℕ)) → HasLeft rem before all → ReadRecord rem before after false fields → all ≡ []
   none_read all fields has read =
       sym has.all_left ∙ none_left before.state has.bytes (rows-end rem before after fields default_config has.bytes setup has.source read)
+
+-- the records that are left are those of csv's relation
+are_records : (n : ℕ) (s : State) (bytes : List ℕ) → length bytes < n → between s → AreRecords default_config s bytes (records_from default_config n s bytes)
+unfolding records_from Reached
+are_records zero s bytes few rests = absurd (omega arith)
+are_records (suc n) s bytes few rests =
+    let by_read : (found : Option Read) → next_record default_config s [] [] bytes ≡ found → AreRecords default_config s bytes (records_next (records_from default_config n) found) =
+    λ found. elim found as (λ found. next_record default_config s [] [] bytes ≡ found → AreRecords default_config s bytes (records_next (records_from default_config n) found)) [
+      | None ↦ λ is. (s, bytes, (refl, refl), is)
+      | Some read ↦ λ is.
+          let left = leaves_fewer bytes read s rests is in
+          let rest = are_records n read.1 read.2 (omega (arith, few, left.fewer)) left.rests in
+          (rest.0, rest.1, (read, is, refl, rest.2), rest.3)
+    ]
+    in by_read (next_record default_config s [] [] bytes) refl
+
+pub read_as_csv : ReadsAsCsv
+unfolding records_in
+read_as_csv bytes =
+    let text = strip_bom bytes in
+    are_records (length text + 1) st.StartRecord text (omega arith) refl

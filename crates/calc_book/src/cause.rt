@@ -4,7 +4,7 @@ ghost use Rattle.std.specs.Prelude.{OnOk, ◌++◌, ◌≡◌};
 use calc_addr::{Cell, NoMemory, write_cell};
 use thiserror::Error;
 
-/// Why a book is refused. The records are taken in order, and the first one at fault gives the cause.
+/// Why a book is refused. The records are taken in order, and the first at fault gives the cause.
 #[derive(Clone, Copy, Debug, PartialEq, Eq)]
 pub enum BookCause {
     /// The book has more bytes than one may have.

@@ -1,5 +1,4 @@
 //! What the fields of records hold, read by many workers.
-ghost use Rattle.calc_book.specs.BookCells.{records_in};
 ghost use Rattle.csv.specs.Records.{AllText, fields_of};
 ghost use Rattle.formula_reader.specs.Fields.{field_of};
 ghost use Rattle.std.specs.List.{All};
@@ -13,8 +12,7 @@ use rayon::prelude::*;
 use std::alloc::Global;
 use std::thread::Threads;
 
-/// The contents of the records' fields, in order. The records are shared among as many threads as there
-/// are processors.
+/// The contents of the records' fields, in order, read by as many threads as there are processors.
 pub(crate) fn read_contents<T: Threads + Sync>(
     rt: &T,
     alloc: Global,
@@ -28,7 +26,8 @@ pub(crate) fn read_contents<T: Threads + Sync>(
         .map(
             |row: &ByteRecord| -> Result<Vec<Content>, NoMemory>
                 requires { AllText (fields_of row.now) }
-                ensures { IfOk result (λ contents. contents.items ≡ map field_of (fields_of row.now)) }
+                ensures { IfOk result (λ contents. contents.items
+                    ≡ map field_of (fields_of row.now)) }
             { read_record(alloc, row) },
         )
         .collect::<Result<Vec<_>, NoMemory>>(rt, alloc)?
@@ -39,7 +38,7 @@ fn read_record(alloc: Global, fields: &ByteRecord) -> Result<Vec<Content>, NoMem
     requires { AllText (fields_of fields.now) }
     ensures { IfOk result (λ contents. contents.items ≡ map field_of (fields_of fields.now)) }
 {
-    let mut contents = Vec::new(alloc);
+    let mut contents = Vec::with_capacity(alloc, fields.len())?;
     for field in fields {
         contents.push(read_field(alloc, field)?)?;
     }

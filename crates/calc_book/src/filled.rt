@@ -33,9 +33,7 @@ fn filled_in(fields: &ByteRecord) -> usize
 {
     let mut count = 0;
     for field in fields {
-        if !field.is_empty() {
-            count += 1;
-        }
+        count += usize::from(!field.is_empty());
     }
     count
 }

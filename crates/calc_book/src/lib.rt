@@ -4,10 +4,12 @@
 mod cause;
 mod contents;
 mod filled;
+mod laws;
 mod limits;
 mod loading;
 mod rows;
 
 pub use cause::{BookCause, BookFault, push_cause};
+pub use laws::books_are_read_as_csv;
 pub use limits::MOST_BYTES;
 pub use loading::load;

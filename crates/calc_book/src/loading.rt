@@ -19,9 +19,9 @@ use cell_map::CellMap;
 use std::alloc::Global;
 use std::thread::Threads;
 
-/// The book of these bytes. Its records are the rows of the first sheet, from row 1 on, and the fields of
-/// a record its columns, from column 1 on. Fields are read by as many threads as there are processors.
-/// Linear in the bytes, but for the logarithm of the cells.
+/// The book of these bytes. Its records are the rows of the first sheet, from row 1 on, and the fields
+/// of a record its columns, from column 1 on. Fields are read by as many threads as there are
+/// processors. Linear in the bytes, but for the logarithm of the cells.
 pub fn load<T: Threads + Sync>(rt: &T, alloc: Global, bytes: &[u8]) -> Result<CellMap, BookFault>
     ensures book { ReadsOver result (λ field. book_read field bytes.now) }
     ensures fault { FindsFault result (book_fault bytes.now) }

@@ -13,7 +13,7 @@ use Rattle.calc_book.specs.declared.cause.BookCause.{BookCause}
 use Rattle.calc_book.specs.declared.cause.BookCause.TheVariants.{TooLarge}
 use Rattle.calc_book.specs.BookCells.{book_fault, book_read, records_fault, records_in}
 use Rattle.calc_cli.specs.declared.limits.TheConstants.{MOST_SCRIPT_BYTES}
-use Rattle.calc_cli.specs.declared.status.TheConstants.{BOOK_REFUSED, DESK_FAILED, DONE, LINE_REFUSED, NO_MEMORY, SCRIPT_TOO_LONG}
+use Rattle.calc_cli.specs.declared.status.TheConstants.{BOOK_REFUSED, DESK_FAILED, DONE, LINE_REFUSED, SCRIPT_TOO_LONG}
 use Rattle.calc_cli.specs.Ending.{Ending, answered, book_refused, calculated, ending, ending_by, too_long}
 use Rattle.calc_cli.specs.Output.{Session, has_refusal, output}
 use Rattle.calc_cli.specs.Inputs.{IsLoaded}
@@ -122,15 +122,6 @@ refusal_ends cause text old new text_is written =
       prefix = ((book_refused cause).written, [], sym (append-nil (book_refused cause).written), all);
       nothing = λ desk. absurd (omega arith);
     }
-
--- where memory was wanting before a run wrote, it ended as any run may
-pub memory_wanting : (old : Option (List ℕ)) (end : Ending) → Ends NO_MEMORY old old end
-memory_wanting old end = record {
-  done = λ calm. absurd (calm.memory refl);
-  all = λ calm. absurd (calm.memory refl);
-  prefix = ([], end.written, refl, Appends-nil old);
-  nothing = λ _. Appends-nil old;
-}
 
 -- where a run was disturbed before it wrote, it ended as for any book and script
 pub disturbed : (stock status : ℕ) (old : Option (List ℕ)) → (IsUndisturbed status → ⊥) → EndsSomehow stock status old old
