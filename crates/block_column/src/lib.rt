@@ -1,0 +1,11 @@
+//! What the rows of a column hold, as blocks of neighbouring rows of one kind.
+#![tactic(auto)]
+
+mod block;
+mod counts;
+mod replace;
+mod slot;
+mod stores;
+
+pub use block::{Block, Kind};
+pub use slot::{Slot, SlotRef};
