@@ -20,3 +20,12 @@ counted Words n c = record c { words = c.words + n }
 counted Bad n c = record c { bad = c.bad + n }
 counted Raw n c = record c { raw = c.raw + n }
 counted Formula n c = record c { codes = c.codes + n }
+
+-- the items of some slots, counted on
+abbrev pub tallied : Counts → List Slot → Counts
+tallied c [] = c
+tallied c (x ∷ s) = tallied (counted (kind_of x) 1 c) s
+
+-- the items of some slots
+abbrev pub tally : List Slot → Counts
+tally s = tallied no_items s

@@ -5,3 +5,4 @@ pub mod Kinds
 pub mod Counting
 pub mod KindTests
 pub mod Stores
+pub mod Blocks
