@@ -6,3 +6,4 @@ pub mod Counting
 pub mod KindTests
 pub mod Stores
 pub mod Blocks
+pub mod Tables

@@ -6,6 +6,7 @@ mod counts;
 mod replace;
 mod slot;
 mod stores;
+mod table;
 
 pub use block::{Block, Kind};
 pub use slot::{Slot, SlotRef};
