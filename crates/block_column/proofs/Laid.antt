@@ -50,7 +50,7 @@ laid-runs p (x ∷ s) = laid-meet p x s (runs_from same_kind (p + 1) (map kind_k
 pub laid-blocks : (s : List Slot) → Laid 1 (blocks_of s) s
 laid-blocks s = laid-runs 1 s
 
-alike-within : (n : ℕ) (k : Kind) (s : List Slot) → Alike n k s → n ≤ length s
+pub alike-within : (n : ℕ) (k : Kind) (s : List Slot) → Alike n k s → n ≤ length s
 alike-within n k s h = omega (arith, ap length h, length-map (take n s) kind_of, length-replicate n k, length-take n s)
 
 pub alike-fewer : (n m : ℕ) (k : Kind) (s : List Slot) → m ≤ n → Alike n k s → Alike m k s

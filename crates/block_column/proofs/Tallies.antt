@@ -35,13 +35,13 @@ pub tallied-append : (c : Counts) (xs ys : List Slot) → tallied c (xs ++ ys) �
 tallied-append c [] ys = refl
 tallied-append c (x ∷ xs) ys = tallied-append (counted (kind_of x) 1 c) xs ys
 
-counted-more : (k : Kind) (n : ℕ) (c : Counts) → counted k n (counted k 1 c) ≡ counted k (suc n) c
-counted-more Empty n c = refl
-counted-more Number n c = let e : c.numbers + 1 + n ≡ c.numbers + suc n = omega arith in ap (λ m. record c { numbers = m }) e
-counted-more Words n c = let e : c.words + 1 + n ≡ c.words + suc n = omega arith in ap (λ m. record c { words = m }) e
-counted-more Bad n c = let e : c.bad + 1 + n ≡ c.bad + suc n = omega arith in ap (λ m. record c { bad = m }) e
-counted-more Raw n c = let e : c.raw + 1 + n ≡ c.raw + suc n = omega arith in ap (λ m. record c { raw = m }) e
-counted-more Formula n c = let e : c.codes + 1 + n ≡ c.codes + suc n = omega arith in ap (λ m. record c { codes = m }) e
+pub counted-both : (k : Kind) (m n : ℕ) (c : Counts) → counted k n (counted k m c) ≡ counted k (m + n) c
+counted-both Empty m n c = refl
+counted-both Number m n c = let e : c.numbers + m + n ≡ c.numbers + (m + n) = omega arith in ap (λ v. record c { numbers = v }) e
+counted-both Words m n c = let e : c.words + m + n ≡ c.words + (m + n) = omega arith in ap (λ v. record c { words = v }) e
+counted-both Bad m n c = let e : c.bad + m + n ≡ c.bad + (m + n) = omega arith in ap (λ v. record c { bad = v }) e
+counted-both Raw m n c = let e : c.raw + m + n ≡ c.raw + (m + n) = omega arith in ap (λ v. record c { raw = v }) e
+counted-both Formula m n c = let e : c.codes + m + n ≡ c.codes + (m + n) = omega arith in ap (λ v. record c { codes = v }) e
 
 counted-none : (k : Kind) (c : Counts) → counted k 0 c ≡ c
 counted-none Empty c = refl
@@ -59,7 +59,8 @@ tallied-alike (suc n) k c [] h = absurd cc
 tallied-alike (suc n) k c (x ∷ xs) h =
     let kind : kind_of x ≡ k = cc in
     let others : map kind_of xs ≡ replicate n k = cc in
-    ap (λ j. tallied (counted j 1 c) xs) kind ∙ tallied-alike n k (counted k 1 c) xs others ∙ counted-more k n c
+    let one : 1 + n ≡ suc n = omega arith in
+    ap (λ j. tallied (counted j 1 c) xs) kind ∙ tallied-alike n k (counted k 1 c) xs others ∙ counted-both k 1 n c ∙ ap (λ v. counted k v c) one
 
 pub total-counted : (k : Kind) (n : ℕ) (c : Counts) → total (counted k n c) ≤ total c + n
 total-counted Empty n c = omega arith

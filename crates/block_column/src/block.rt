@@ -30,7 +30,7 @@ impl Kind {
         }
     }
 
-    fn is(self, other: Kind) -> bool
+    pub(crate) fn is(self, other: Kind) -> bool
         ensures { result ≡ same_kind self other }
     {
         self == other

@@ -1,9 +1,12 @@
-ghost use Rattle.std.specs.Prelude.{◌≡◌, [], ◌∷◌, ◌+◌, ◌≤◌, List, replicate, vec_len, IfOk, OnOk, OnErr, IsOk};
+ghost use Rattle.std.specs.Prelude.{◌≡◌, [], ◌∷◌, ◌+◌, ◌≤◌, List, replicate, vec_len, Some, IsSome, IfOk, OnOk, OnErr, IsOk};
+ghost use Rattle.block_column.specs.Kinds.{lent_slot};
+ghost use Rattle.block_column.specs.Tables.{stored_slot};
 ghost use Rattle.block_column.specs.Stores.{Holds, IsReplaced, CanReplace, KeepsRoom, a_code, a_fault, a_number, a_raw, a_text, store_room, IsOneRow, HasRoom};
 
+use crate::block::Kind;
 use crate::counts::Counts;
 use crate::replace::{put_many, put_one};
-use crate::slot::Slot;
+use crate::slot::{Slot, SlotRef};
 use calc_addr::NoMemory;
 use calc_model::{CodeId, Fault, Text};
 use calc_num::Num;
@@ -152,6 +155,21 @@ impl Stores {
                 codes: vec![in alloc; *id; rows]?,
                 ..new
             }),
+        }
+    }
+
+    /// The slot of a kind with the item at a place.
+    pub(crate) fn lend(&self, kind: Kind, at: Counts) -> SlotRef<'_>
+        requires { IsSome (stored_slot self.now kind at) }
+        ensures { stored_slot self.now kind at ≡ Some (lent_slot result) }
+    {
+        match kind {
+            Kind::Empty => SlotRef::Empty,
+            Kind::Number => SlotRef::Number(self.numbers[at.numbers as usize]),
+            Kind::Words => SlotRef::Words(&self.words[at.words as usize]),
+            Kind::Bad => SlotRef::Bad(self.bad[at.bad as usize]),
+            Kind::Raw => SlotRef::Raw(&self.raw[at.raw as usize]),
+            Kind::Formula => SlotRef::Formula(self.codes[at.codes as usize]),
         }
     }
 }

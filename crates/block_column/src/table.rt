@@ -6,15 +6,18 @@ ghost use Rattle.calc_addr.specs.declared.cell.TheConstants.{LAST_ROW};
 ghost use Rattle.run_tables.specs.Edges.{HasSmallRows};
 ghost use Rattle.run_tables.specs.Rows.{spliced};
 ghost use Rattle.run_tables.specs.Runs.{Rises, runs_of};
-ghost use Rattle.block_column.specs.Kinds.{same_kind};
-ghost use Rattle.block_column.specs.Counting.{no_items, total};
+ghost use Rattle.block_column.specs.Kinds.{kind_of, lent_slot, same_kind};
+ghost use Rattle.block_column.specs.Counting.{no_items, tally};
 ghost use Rattle.block_column.specs.Blocks.{block_kinds, block_run, counts_from};
-ghost use Rattle.block_column.specs.Tables.{AreBlocks};
+ghost use Rattle.block_column.specs.Tables.{AreBlocks, HasRow, IsAtRow, IsTable, IsTableOf, room_of, slots_of};
 
 use crate::block::{Block, Kind};
 use crate::counts::Counts;
+use crate::slot::{Slot, SlotRef};
+use crate::stores::Stores;
 use calc_addr::NoMemory;
-use run_tables::splice;
+use run_tables::{first_past, splice};
+use std::alloc::Global;
 
 /// How many places an edit of a table may take.
 pub(crate) const PLACES: usize = 3;
@@ -78,4 +81,99 @@ pub(crate) fn edit_blocks(
     splice(blocks, from, to, rows, key_of(kind))?;
     recount(blocks, counts);
     Ok(())
+}
+
+/// As `edit_blocks` for one row, which has a block of the old kind. Where the kinds are equal,
+/// nothing is done.
+fn edit_row(
+    blocks: &mut Vec<Block>,
+    counts: &mut Vec<Counts>,
+    row: u32,
+    old: Kind,
+    kind: Kind,
+) -> Result<(), NoMemory>
+    requires blocks { AreBlocks blocks.old.items }
+    requires row { 1 ≤ row }
+    requires within { row ≤ length (block_kinds blocks.old.items) }
+    requires old { slice_get (block_kinds blocks.old.items) (row - 1) ≡ Some old }
+    requires counted { counts.old.items ≡ counts_from no_items blocks.old.items }
+    requires places { vec_len counts.old ≡ vec_len blocks.old }
+    ensures ok { OnOk result (map block_run blocks.new.items ≡ runs_of same_kind
+        (spliced (row - 1) row 1 (Some kind) (map Some (block_kinds blocks.old.items)))) }
+    ensures counts { OnOk result (counts.new.items ≡ counts_from no_items blocks.new.items) }
+    ensures places { vec_len counts.new ≡ vec_len blocks.new }
+    ensures err { OnErr result (blocks.new.items ≡ blocks.old.items) }
+    ensures err_counts { OnErr result (counts.new.items ≡ counts.old.items) }
+    ensures len { vec_len blocks.new ≤ vec_len blocks.old + PLACES }
+    ensures capacity { vec_capacity blocks.old ≤ vec_capacity blocks.new }
+    ensures counts_capacity { vec_capacity counts.old ≤ vec_capacity counts.new }
+    ensures succeeds { vec_len blocks.old + PLACES ≤ vec_capacity blocks.old
+        → vec_len blocks.old + PLACES ≤ vec_capacity counts.old → IsOk result }
+{
+    if old.is(kind) {
+        return Ok(());
+    }
+    edit_blocks(blocks, counts, row - 1, row, 1, kind)
+}
+
+/// The blocks of a column, how many items lie in front of each, and the items.
+#[derive(Debug, Drop)]
+pub(crate) struct Table {
+    pub(crate) blocks: Vec<Block>,
+    pub(crate) counts: Vec<Counts>,
+    pub(crate) stores: Stores,
+}
+
+impl Table {
+    /// The block of a row, and what lies in front of it.
+    fn block_at(&self, row: u32) -> (Block, Counts)
+        requires table { IsTable self.now }
+        requires row { HasRow (slots_of self.now) row }
+        ensures { IsAtRow row (slots_of self.now) result.0 result.1 }
+    {
+        let place = first_past(&self.blocks, row) - 1;
+        (self.blocks[place], self.counts[place])
+    }
+
+    /// How many items the first rows have.
+    fn ahead(&self, rows: u32) -> Counts
+        requires table { IsTable self.now }
+        requires rows { rows ≤ length (slots_of self.now) }
+        ensures { result ≡ tally (take rows (slots_of self.now)) }
+    {
+        if rows == 0 {
+            return Counts::none();
+        }
+        let (block, counts) = self.block_at(rows);
+        counts.with(block.kind, rows + 1 - block.first)
+    }
+
+    /// The slot of a row.
+    pub(crate) fn get(&self, row: u32) -> SlotRef<'_>
+        requires table { IsTable self.now }
+        requires row { HasRow (slots_of self.now) row }
+        ensures { slice_get (slots_of self.now) (row - 1) ≡ Some (lent_slot result) }
+    {
+        let (block, counts) = self.block_at(row);
+        self.stores.lend(block.kind, counts.with(block.kind, row - block.first))
+    }
+
+    /// Puts a slot in a row.
+    pub(crate) fn put(&mut self, row: u32, slot: Slot) -> Result<(), NoMemory>
+        requires table { IsTable self.old }
+        requires row { HasRow (slots_of self.old) row }
+        ensures ok { OnOk result (IsTableOf self.new
+            (spliced (row - 1) row 1 slot (slots_of self.old))) }
+        ensures err { OnErr result (IsTableOf self.new (slots_of self.old)) }
+        ensures reserved { 1 ≤ room_of self.old → IsOk result }
+        ensures room { OnOk result (room_of self.old ≤ room_of self.new + 1) }
+    {
+        let (block, counts) = self.block_at(row);
+        let low = counts.with(block.kind, row - block.first);
+        let high = low.with(block.kind, 1);
+        self.stores.reserve(1)?;
+        edit_row(&mut self.blocks, &mut self.counts, row, block.kind, slot.kind())?;
+        self.stores.put(low, high, slot);
+        Ok(())
+    }
 }
