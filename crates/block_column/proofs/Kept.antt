@@ -1,10 +1,11 @@
 -- A table of a column gives the column's slots back, before an edit and after it.
 use Rattle.std.proofs.Common.{◌≡◌, ℕ, zero, suc, ◌+◌, ◌-◌, ◌<◌, ◌≤◌, ◌==◌, true, List, [], ◌∷◌, ◌++◌, map, take, drop, length, replicate, slice_get, Option, Some, None, IsSome, option_map, vec_len, refl, sym, ap, subst, ◌∙◌, arith}
 use Rattle.std.specs.List.{filter_map}
-use Rattle.std.proofs.lemmas.List.{map-append, take-map, drop-map, length-map, length-append}
+use Rattle.std.proofs.lemmas.List.{map-append, take-map, drop-map, length-map, length-append, length-replicate}
 use Rattle.calc_addr.specs.declared.cell.TheConstants.{LAST_ROW}
 use Rattle.run_tables.specs.Rows.{spliced}
 use Rattle.run_tables.specs.Runs.{Run, runs_of}
+use Rattle.run_tables.proofs.RunLists.{runs-filled}
 use Rattle.run_tables.proofs.RowEdits.{length-spliced}
 use Rattle.block_column.specs.declared.slot.Slot.{Slot}
 use Rattle.block_column.specs.declared.slot.Slot.TheVariants as slot
@@ -19,6 +20,8 @@ use Rattle.block_column.specs.Counting.{no_items, tally}
 use Rattle.block_column.specs.Stores.{Holds, CanReplace, IsReplaced, KeepsRoom, a_number, a_text, a_fault, a_raw, a_code}
 use Rattle.block_column.specs.Blocks.{block_run, a_block, block_kinds, blocks_of, counts_from, kind_key, woven}
 use Rattle.block_column.specs.Tables.{AreBlocks, IsTableOf, IsTable, slots_of, stored_slot}
+use Rattle.block_column.specs.KindTests.{kinds-decided}
+use Rattle.block_column.proofs.Filtered.{filter-rows_none}
 use Rattle.block_column.proofs.Items.{picked-edit, picked-at, ahead, ahead-all, ahead-order}
 use Rattle.block_column.proofs.Laid.{Laid, laid-blocks, laid-kinds}
 use Rattle.block_column.proofs.Tallies.{CountsOn, counts-on}
@@ -195,3 +198,33 @@ same-row t a b old new is same next runs =
     put-back [] i x e = absurd cc
     put-back (y ∷ s) zero x e = let first : x ≡ y = cc in ap (λ v. v ∷ s) first
     put-back (y ∷ s) (suc i) x e = ap (λ v. y ∷ v) (put-back s i x e)
+
+-- rows that are all empty
+pub empty-table : (t : Table) (n m : ℕ) → n ≡ suc m → n ≤ LAST_ROW → t.blocks.items ≡ record { first = 1; last = n; kind = Empty } ∷ [] → t.counts.items ≡ no_items ∷ [] → vec_len t.counts ≡ vec_len t.blocks → Holds t.stores [] → IsTableOf t (replicate n slot.Empty)
+empty-table t n m e fits blocks counts places stores =
+    let last : 1 + m ≡ n = omega arith in
+    record {
+      blocks = blocks ∙ sym (ap (map a_block)
+          (ap (runs_of same_kind) (map-replicate kind_key n slot.Empty) ∙ ap (λ i. runs_of same_kind (replicate i (Some Empty))) e ∙ runs-filled same_kind kinds-decided 1 (suc m) (Some Empty))
+          ∙ ap (λ i. record { first = 1; last = i; kind = Empty } ∷ []) last);
+      counts = counts ∙ sym (ap (counts_from no_items) blocks);
+      places = places;
+      stores = record {
+        numbers = stores.numbers ∙ sym (filter-rows_none a_number n slot.Empty refl);
+        words = stores.words ∙ sym (filter-rows_none a_text n slot.Empty refl);
+        bad = stores.bad ∙ sym (filter-rows_none a_fault n slot.Empty refl);
+        raw = stores.raw ∙ sym (filter-rows_none a_raw n slot.Empty refl);
+        codes = stores.codes ∙ sym (filter-rows_none a_code n slot.Empty refl);
+      };
+      rows = omega (arith, length-replicate {A = Slot} n slot.Empty);
+    }
+
+-- the items of empty rows
+pub no-items : (t : Stores) (n : ℕ) (e : Slot) → e ≡ slot.Empty → Holds t (replicate n e) → Holds t []
+no-items t n e is h = record {
+  numbers = h.numbers ∙ filter-rows_none a_number n e (ap a_number is);
+  words = h.words ∙ filter-rows_none a_text n e (ap a_text is);
+  bad = h.bad ∙ filter-rows_none a_fault n e (ap a_fault is);
+  raw = h.raw ∙ filter-rows_none a_raw n e (ap a_raw is);
+  codes = h.codes ∙ filter-rows_none a_code n e (ap a_code is);
+}

@@ -1,5 +1,5 @@
 -- The kinds of slots, and their words.
-use Rattle.std.specs.Prelude.{ℕ, ◌==◌, Bool, List, codes}
+use Rattle.std.specs.Prelude.{ℕ, ◌==◌, Bool, true, false, List, codes}
 use Rattle.block_column.specs.declared.slot.Slot.{Slot}
 use Rattle.block_column.specs.declared.slot.Slot.TheVariants as slot
 use Rattle.block_column.specs.declared.slot.SlotRef.{SlotRef}
@@ -44,3 +44,8 @@ kind_rank Formula = 5
 
 abbrev pub same_kind : Kind → Kind → Bool
 same_kind k l = kind_rank k == kind_rank l
+
+-- the slot isn't empty
+abbrev pub is_filled : Slot → Bool
+is_filled slot.Empty = false
+is_filled _ = true

@@ -7,3 +7,4 @@ pub mod KindTests
 pub mod Stores
 pub mod Blocks
 pub mod Tables
+pub mod SlotRows

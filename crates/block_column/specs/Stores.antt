@@ -84,3 +84,7 @@ pub record IsReplaced (old new : Stores) (low high : Counts) (s : List Slot) : T
   pub bad : new.bad.items ≡ take low.bad old.bad.items ++ (filter_map a_fault s ++ drop high.bad old.bad.items)
   pub raw : new.raw.items ≡ take low.raw old.raw.items ++ (filter_map a_raw s ++ drop high.raw old.raw.items)
   pub codes : new.codes.items ≡ take low.codes old.codes.items ++ (filter_map a_code s ++ drop high.codes old.codes.items)
+
+-- how many items there are
+abbrev pub item_count : Stores → ℕ
+item_count t = vec_len t.numbers + (vec_len t.words + vec_len t.raw) + (vec_len t.bad + vec_len t.codes)

@@ -1,5 +1,5 @@
 -- Tables of blocks.
-use Rattle.std.specs.Prelude.{◌≡◌, ℕ, ◌≤◌, ◌<◌, ◌+◌, ◌-◌, ◌/◌, ◌^◌, min, List, map, length, take, slice_get, Option, Some, vec_len}
+use Rattle.std.specs.Prelude.{◌≡◌, ℕ, ◌≤◌, ◌<◌, ◌+◌, ◌-◌, ◌/◌, ◌^◌, min, List, map, length, take, replicate, slice_get, Option, Some, vec_len}
 use Rattle.std.specs.Option.{option_map}
 use Rattle.std.specs.Vec.{vec_capacity}
 use Rattle.calc_addr.specs.declared.cell.TheConstants.{LAST_ROW}
@@ -67,3 +67,17 @@ abbrev pub room_of : Table → ℕ
 room_of t =
     min ((vec_capacity t.blocks - vec_len t.blocks) / 3)
     (min ((vec_capacity t.counts - vec_len t.blocks) / 3) (store_room t.stores))
+
+-- n more blocks can be put in before memory is asked for
+pub record HasPlaces (n : ℕ) (t : Table) : Type 0 where
+  pub blocks : vec_len t.blocks + n ≤ vec_capacity t.blocks
+  pub counts : vec_len t.blocks + n ≤ vec_capacity t.counts
+
+-- a column without contents
+unfoldable pub no_slots : List Slot
+no_slots = replicate LAST_ROW slot.Empty
+
+-- the table of a whole column
+pub record IsColumn (t : Table) : Type 0 where
+  pub table : IsTable t
+  pub whole : length (slots_of t) ≡ LAST_ROW

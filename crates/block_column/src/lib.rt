@@ -2,6 +2,7 @@
 #![tactic(auto)]
 
 mod block;
+mod column;
 mod counts;
 mod replace;
 mod slot;
@@ -9,4 +10,5 @@ mod stores;
 mod table;
 
 pub use block::{Block, Kind};
+pub use column::BlockColumn;
 pub use slot::{Slot, SlotRef};

@@ -1,7 +1,7 @@
-ghost use Rattle.std.specs.Prelude.{◌≡◌, [], ◌∷◌, ◌+◌, ◌≤◌, List, replicate, vec_len, Some, IsSome, IfOk, OnOk, OnErr, IsOk};
+ghost use Rattle.std.specs.Prelude.{◌≡◌, [], ◌∷◌, ◌+◌, ◌≤◌, List, replicate, vec_len, ◌<◌, ◌^◌, Some, IsSome, IfOk, OnOk, OnErr, IsOk};
 ghost use Rattle.block_column.specs.Kinds.{lent_slot};
 ghost use Rattle.block_column.specs.Tables.{stored_slot};
-ghost use Rattle.block_column.specs.Stores.{Holds, IsReplaced, CanReplace, KeepsRoom, a_code, a_fault, a_number, a_raw, a_text, store_room, IsOneRow, HasRoom};
+ghost use Rattle.block_column.specs.Stores.{Holds, IsReplaced, CanReplace, KeepsRoom, a_code, a_fault, a_number, a_raw, a_text, item_count, store_room, IsOneRow, HasRoom};
 
 use crate::block::Kind;
 use crate::counts::Counts;
@@ -84,6 +84,16 @@ impl Stores {
         }
     }
 
+    /// How many items there are.
+    pub(crate) fn len(&self) -> u64
+        requires { item_count self.now < 2 ^ 31 }
+        ensures { result ≡ item_count self.now }
+    {
+        let texts = self.words.len() as u64 + self.raw.len() as u64;
+        let others = self.bad.len() as u64 + self.codes.len() as u64;
+        self.numbers.len() as u64 + texts + others
+    }
+
     /// Room for n more items of any kind.
     pub(crate) fn reserve(&mut self, n: usize) -> Result<(), NoMemory>
         ensures room { OnOk result (n ≤ store_room self.new) }
@@ -95,6 +105,19 @@ impl Stores {
         self.bad.reserve(n)?;
         self.raw.reserve(n)?;
         self.codes.reserve(n)
+    }
+
+    /// Room for more items, kind by kind.
+    pub(crate) fn make_room(&mut self, more: &Stores) -> Result<(), NoMemory>
+        ensures room { OnOk result (HasRoom self.new more.now) }
+        ensures kept { KeepsRoom self.old self.new }
+        ensures succeeds { Holds more.now [] → IsOk result }
+    {
+        self.numbers.reserve(more.numbers.len())?;
+        self.words.reserve(more.words.len())?;
+        self.bad.reserve(more.bad.len())?;
+        self.raw.reserve(more.raw.len())?;
+        self.codes.reserve(more.codes.len())
     }
 
     /// Puts the item of a slot in the place of the one from the low places to the high ones.
@@ -130,7 +153,8 @@ impl Stores {
     /// The items of so many rows that hold a slot.
     #[tactic(auto, using(crate::proofs::Filtered::filter_rows))]
     pub(crate) fn of_rows(alloc: Global, rows: usize, slot: &Slot) -> Result<Stores, NoMemory>
-        ensures { IfOk result (λ stores. Holds stores (replicate rows slot.now)) }
+        ensures items { IfOk result (λ stores. Holds stores (replicate rows slot.now)) }
+        ensures empty { slot.now ≡ Slot.Empty → IsOk result }
     {
         let new = Stores::new(alloc);
         match slot {

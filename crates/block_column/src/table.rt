@@ -1,23 +1,23 @@
-ghost use Rattle.std.specs.Prelude.{◌≡◌, ◌≤◌, ◌<◌, ◌+◌, ◌-◌, ◌^◌, ◌++◌, [], ◌∷◌, length, map, drop, take, Option, Some, vec_len, OnOk, OnErr, IsOk, slice_get};
+ghost use Rattle.std.specs.Prelude.{◌≡◌, ◌≤◌, ◌<◌, ◌+◌, ◌-◌, ◌^◌, ◌++◌, [], ◌∷◌, length, map, drop, take, Option, Some, vec_len, ℕ, ◌*◌, IfOk, OnOk, OnErr, IsOk, slice_get};
 ghost use Rattle.std.specs.List.{All};
 ghost use Rattle.std.specs.Option.{option_map};
 ghost use Rattle.std.specs.Vec.{vec_capacity};
 ghost use Rattle.calc_addr.specs.declared.cell.TheConstants.{LAST_ROW};
 ghost use Rattle.run_tables.specs.Edges.{HasSmallRows};
-ghost use Rattle.run_tables.specs.Rows.{spliced};
+ghost use Rattle.run_tables.specs.Rows.{IsRowEdit, rows_erased, rows_inserted, spliced};
 ghost use Rattle.run_tables.specs.Runs.{Rises, runs_of};
 ghost use Rattle.block_column.specs.Kinds.{kind_of, lent_slot, same_kind};
 ghost use Rattle.block_column.specs.Counting.{no_items, tally};
 ghost use Rattle.block_column.specs.Blocks.{block_kinds, block_run, counts_from};
-ghost use Rattle.block_column.specs.Tables.{AreBlocks, HasRow, IsAtRow, IsTable, IsTableOf, room_of, slots_of};
+ghost use Rattle.block_column.specs.Tables.{AreBlocks, HasPlaces, HasRow, IsAtRow, IsColumn, IsTable, IsTableOf, no_slots, room_of, slots_of};
 
 use crate::block::{Block, Kind};
 use crate::counts::Counts;
 use crate::slot::{Slot, SlotRef};
 use crate::stores::Stores;
-use calc_addr::NoMemory;
+use calc_addr::{LAST_ROW, NoMemory};
 use run_tables::{first_past, splice};
-use std::alloc::Global;
+use std::alloc::{AllocError, Global};
 
 /// How many places an edit of a table may take.
 pub(crate) const PLACES: usize = 3;
@@ -125,6 +125,47 @@ pub(crate) struct Table {
 }
 
 impl Table {
+    /// A table of empty rows alone.
+    pub(crate) fn new(alloc: Global) -> Result<Table, NoMemory>
+        ensures { IfOk result (λ t. IsTableOf t no_slots) }
+    {
+        let mut blocks = Vec::new(alloc);
+        blocks.push(Block {
+            first: 1,
+            last: LAST_ROW,
+            kind: Kind::Empty,
+        })?;
+        let mut counts = Vec::new(alloc);
+        counts.push(Counts::none())?;
+        Ok(Table {
+            blocks,
+            counts,
+            stores: Stores::new(alloc),
+        })
+    }
+
+    /// Room for the setting or clearing of n rows.
+    pub(crate) fn reserve(&mut self, n: usize) -> Result<(), NoMemory>
+        requires table { IsTable self.old }
+        ensures room { OnOk result (n ≤ room_of self.new) }
+        ensures table { IsTableOf self.new (slots_of self.old) }
+    {
+        self.reserve_places(n)?;
+        self.stores.reserve(n)
+    }
+
+    /// Room for n edits of the blocks, but not of the items.
+    pub(crate) fn reserve_places(&mut self, n: usize) -> Result<(), NoMemory>
+        requires table { IsTable self.old }
+        ensures places { OnOk result (HasPlaces (n * PLACES) self.new) }
+        ensures table { IsTableOf self.new (slots_of self.old) }
+        ensures stores { self.new.stores ≡ self.old.stores }
+    {
+        let places = n.checked_mul(PLACES).ok_or(AllocError)?;
+        self.blocks.reserve(places)?;
+        self.counts.reserve(places)
+    }
+
     /// The block of a row, and what lies in front of it.
     fn block_at(&self, row: u32) -> (Block, Counts)
         requires table { IsTable self.now }
@@ -175,5 +216,71 @@ impl Table {
         edit_row(&mut self.blocks, &mut self.counts, row, block.kind, slot.kind())?;
         self.stores.put(low, high, slot);
         Ok(())
+    }
+
+    /// Puts `rows` rows that hold a slot in the place of those from the one behind `from` to `to`.
+    pub(crate) fn fill(
+        &mut self,
+        alloc: Global,
+        from: u32,
+        to: u32,
+        rows: u32,
+        slot: &Slot,
+    ) -> Result<(), NoMemory>
+        requires table { IsTable self.old }
+        requires order { from ≤ to }
+        requires to { to ≤ length (slots_of self.old) }
+        requires rows { from + rows + (length (slots_of self.old) - to) ≤ LAST_ROW }
+        ensures ok { OnOk result (IsTableOf self.new
+            (spliced from to rows slot.now (slots_of self.old))) }
+        ensures err { OnErr result (IsTableOf self.new (slots_of self.old)) }
+        ensures reserved { slot.now ≡ Slot.Empty → HasPlaces PLACES self.old → IsOk result }
+        ensures room { OnOk result (slot.now ≡ Slot.Empty
+            → room_of self.old ≤ room_of self.new + 1) }
+        ensures places { (n : ℕ) → HasPlaces (n + PLACES) self.old → HasPlaces n self.new }
+    {
+        let more = Stores::of_rows(alloc, rows as usize, slot)?;
+        let low = self.ahead(from);
+        let high = self.ahead(to);
+        self.stores.make_room(&more)?;
+        edit_blocks(&mut self.blocks, &mut self.counts, from, to, rows, slot.kind())?;
+        self.stores.replace(low, high, more);
+        Ok(())
+    }
+
+    /// Puts in empty rows from a place on, and drops as many at the end.
+    pub(crate) fn insert_rows(
+        &mut self,
+        alloc: Global,
+        place: u32,
+        count: u32,
+    ) -> Result<(), NoMemory>
+        requires column { IsColumn self.old }
+        requires edit { IsRowEdit place count }
+        ensures ok { OnOk result (IsTableOf self.new
+            (rows_inserted (place - 1) count Slot.Empty (slots_of self.old))) }
+        ensures err { OnErr result (IsTableOf self.new (slots_of self.old)) }
+    {
+        self.reserve_places(2)?;
+        self.fill(alloc, LAST_ROW - count, LAST_ROW, 0, &Slot::Empty)?;
+        self.fill(alloc, place - 1, place - 1, count, &Slot::Empty)
+    }
+
+    /// Takes out rows from a place on, and adds as many empty ones at the end.
+    pub(crate) fn erase_rows(
+        &mut self,
+        alloc: Global,
+        place: u32,
+        count: u32,
+    ) -> Result<(), NoMemory>
+        requires column { IsColumn self.old }
+        requires edit { IsRowEdit place count }
+        ensures ok { OnOk result (IsTableOf self.new
+            (rows_erased (place - 1) count Slot.Empty (slots_of self.old))) }
+        ensures err { OnErr result (IsTableOf self.new (slots_of self.old)) }
+    {
+        self.reserve_places(2)?;
+        self.fill(alloc, place - 1, place - 1 + count, 0, &Slot::Empty)?;
+        self.fill(alloc, LAST_ROW - count, LAST_ROW - count, count, &Slot::Empty)
     }
 }
