@@ -1,9 +1,8 @@
 -- The block of a row, and what lies in front of it.
-use Rattle.std.proofs.Common.{◌≡◌, ◌≢◌, ℕ, zero, suc, ◌+◌, ◌-◌, ◌<◌, ◌≤◌, ◌^◌, List, [], ◌∷◌, map, take, drop, length, replicate, slice_get, get_or, Option, Some, None, IfSome, option_map, refl, sym, ap, subst, ◌∙◌, arith}
-use Rattle.std.proofs.lemmas.List.{length-take, length-drop, length-map, length-replicate}
+use Rattle.std.proofs.Common.{◌≡◌, ℕ, zero, suc, ◌+◌, ◌-◌, ◌<◌, ◌≤◌, List, [], ◌∷◌, map, take, drop, length, slice_get, get_or, Some, IfSome, option_map, refl, sym, ap, subst, ◌∙◌, arith}
+use Rattle.std.proofs.lemmas.List.{length-take, length-drop}
 use Rattle.std.proofs.lemmas.Option.{slice_get-get_or, slice_get-map}
 use Rattle.calc_addr.specs.declared.cell.TheConstants.{LAST_ROW}
-use Rattle.run_tables.specs.Runs.{Run}
 use Rattle.run_tables.specs.Edges.{IsFirstPast}
 use Rattle.block_column.specs.declared.slot.Slot.{Slot}
 use Rattle.block_column.specs.declared.block.Kind.{Kind}
@@ -13,7 +12,7 @@ use Rattle.block_column.specs.Kinds.{kind_of}
 use Rattle.block_column.specs.Counting.{no_items, counted, tallied, tally, total}
 use Rattle.block_column.specs.Blocks.{block_run, counts_from}
 use Rattle.block_column.specs.Tables.{IsAtRow}
-use Rattle.block_column.proofs.Laid.{Laid, Lies, Alike, laid-at, alike-fewer, alike-within}
+use Rattle.block_column.proofs.Laid.{Laid, Lies, Alike, laid-at, alike-within}
 use Rattle.block_column.proofs.Tallies.{counts-at, counts-in, counted-both, total-counted}
 
 drop-at : {X : Type 0} (a m : ℕ) (xs : List X) → slice_get (drop a xs) m ≡ slice_get xs (a + m)

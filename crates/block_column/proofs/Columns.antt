@@ -1,5 +1,5 @@
 -- A whole column after an edit of its table.
-use Rattle.std.proofs.Common.{◌≡◌, ℕ, zero, suc, ◌+◌, ◌-◌, ◌<◌, ◌≤◌, List, [], ◌∷◌, ◌++◌, take, drop, length, replicate, cond, true, false, Result, Ok, Err, OnOk, OnErr, IsOk, refl, sym, ap, subst, ◌∙◌, arith}
+use Rattle.std.proofs.Common.{◌≡◌, ℕ, zero, suc, ◌+◌, ◌-◌, ◌≤◌, List, [], ◌∷◌, ◌++◌, drop, length, replicate, Result, Ok, Err, OnOk, OnErr, IsOk, refl, sym, ap, subst, ◌∙◌, arith}
 use Rattle.std.proofs.Math.ListN.{set}
 use Rattle.std.specs.List.{filter, filter_map, count_by}
 use Rattle.calc_addr.specs.declared.cell.TheConstants.{LAST_ROW}
@@ -12,7 +12,7 @@ use Rattle.block_column.specs.declared.slot.Slot.TheVariants.{Empty, Number, Wor
 use Rattle.block_column.specs.declared.table.Table.{Table}
 use Rattle.block_column.specs.Kinds.{is_filled}
 use Rattle.block_column.specs.Stores.{a_number, a_text, a_fault, a_raw, a_code, item_count}
-use Rattle.block_column.specs.Tables.{IsTableOf, IsTable, IsColumn, HasPlaces, slots_of, no_slots}
+use Rattle.block_column.specs.Tables.{IsTableOf, IsTable, IsColumn, slots_of, no_slots}
 use Rattle.block_column.proofs.Kept.{slots-back, table-again}
 
 -- a table after an edit that leaves a column s

@@ -1,5 +1,5 @@
 -- What a filter keeps of rows that hold one slot.
-use Rattle.std.proofs.Common.{◌≡◌, ℕ, zero, suc, List, [], ◌∷◌, replicate, Option, Some, None, refl, ap, ◌∙◌}
+use Rattle.std.proofs.Common.{◌≡◌, ℕ, zero, suc, [], ◌∷◌, replicate, Option, Some, None, refl, ap, ◌∙◌}
 use Rattle.std.specs.List.{filter_map, cons_option}
 
 pub filter-rows_some : {X Y : Type 0} (h : X → Option Y) (n : ℕ) (x : X) (y : Y) → h x ≡ Some y → filter_map h (replicate n x) ≡ replicate n y

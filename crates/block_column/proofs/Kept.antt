@@ -1,7 +1,7 @@
 -- A table of a column gives the column's slots back, before an edit and after it.
-use Rattle.std.proofs.Common.{◌≡◌, ℕ, zero, suc, ◌+◌, ◌-◌, ◌<◌, ◌≤◌, ◌==◌, true, List, [], ◌∷◌, ◌++◌, map, take, drop, length, replicate, slice_get, Option, Some, None, IsSome, option_map, vec_len, refl, sym, ap, subst, ◌∙◌, arith}
+use Rattle.std.proofs.Common.{◌≡◌, ℕ, zero, suc, ◌+◌, ◌-◌, ◌<◌, ◌≤◌, List, [], ◌∷◌, ◌++◌, map, take, drop, length, replicate, slice_get, Option, Some, None, IsSome, option_map, vec_len, refl, sym, ap, subst, ◌∙◌, arith}
 use Rattle.std.specs.List.{filter_map}
-use Rattle.std.proofs.lemmas.List.{map-append, take-map, drop-map, length-map, length-append, length-replicate}
+use Rattle.std.proofs.lemmas.List.{map-append, take-map, drop-map, length-map, length-replicate}
 use Rattle.calc_addr.specs.declared.cell.TheConstants.{LAST_ROW}
 use Rattle.run_tables.specs.Rows.{spliced}
 use Rattle.run_tables.specs.Runs.{Run, runs_of}
@@ -10,7 +10,7 @@ use Rattle.run_tables.proofs.RowEdits.{length-spliced}
 use Rattle.block_column.specs.declared.slot.Slot.{Slot}
 use Rattle.block_column.specs.declared.slot.Slot.TheVariants as slot
 use Rattle.block_column.specs.declared.block.Kind.{Kind}
-use Rattle.block_column.specs.declared.block.Kind.TheVariants.{Empty, Number, Words, Bad, Raw, Formula}
+use Rattle.block_column.specs.declared.block.Kind.TheVariants.{Empty}
 use Rattle.block_column.specs.declared.block.Block.{Block}
 use Rattle.block_column.specs.declared.counts.Counts.{Counts}
 use Rattle.block_column.specs.declared.stores.Stores.{Stores}

@@ -1,9 +1,8 @@
 -- Blocks that lie on the rows of a column one behind the other.
-use Rattle.std.proofs.Common.{◌≡◌, ℕ, zero, suc, ◌+◌, ◌-◌, ◌<◌, ◌≤◌, Bool, true, false, List, [], ◌∷◌, ◌++◌, map, take, drop, length, replicate, slice_get, get_or, Option, Some, None, IfSome, refl, sym, ap, subst, ◌∙◌, arith}
-use Rattle.std.proofs.Math.Seq.{take-add}
+use Rattle.std.proofs.Common.{◌≡◌, ℕ, zero, suc, ◌+◌, ◌-◌, ◌≤◌, Bool, true, false, List, [], ◌∷◌, ◌++◌, map, take, drop, length, replicate, slice_get, Some, refl, sym, ap, subst, ◌∙◌, arith}
 use Rattle.std.proofs.lemmas.List.{map-append, take-append-drop, length-map, length-replicate, drop-drop, length-take, take-take, take-map, take-replicate}
 use Rattle.run_tables.specs.Runs.{Run, touches, meet, runs_from}
-use Rattle.run_tables.proofs.RunLists.{meet-true, meet-false, one_row, touching_key, touching_place}
+use Rattle.run_tables.proofs.RunLists.{meet-true, meet-false, one_row, touching_key}
 use Rattle.block_column.specs.declared.slot.Slot.{Slot}
 use Rattle.block_column.specs.declared.block.Kind.{Kind}
 use Rattle.block_column.specs.declared.block.Block.{Block}

@@ -1,5 +1,5 @@
 -- The items in front of each block, counted anew.
-use Rattle.std.proofs.Common.{◌≡◌, ℕ, ◌+◌, ◌-◌, ◌<◌, ◌≤◌, List, [], ◌∷◌, ◌++◌, map, drop, length, get_or, Option, Some, refl, sym, ap, subst, ◌∙◌, arith, append_assoc, ◌^◌}
+use Rattle.std.proofs.Common.{◌≡◌, ℕ, ◌+◌, ◌-◌, ◌<◌, ◌≤◌, List, [], ◌∷◌, ◌++◌, map, drop, length, get_or, Option, Some, sym, ap, subst, ◌∙◌, arith, append_assoc, ◌^◌}
 use Rattle.std.specs.List.{All}
 use Rattle.std.proofs.lemmas.List.{drop_more, length-map}
 use Rattle.calc_addr.specs.declared.cell.TheConstants.{LAST_ROW}

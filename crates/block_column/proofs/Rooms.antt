@@ -1,5 +1,5 @@
 -- Room for edits of single rows.
-use Rattle.std.proofs.Common.{◌≡◌, ℕ, suc, ◌+◌, ◌-◌, ◌*◌, ◌/◌, ◌≤◌, ◌<◌, min, true, Result, Ok, Err, IsOk, arith}
+use Rattle.std.proofs.Common.{◌≡◌, ℕ, ◌+◌, ◌-◌, ◌/◌, ◌≤◌, min, Result, Err, IsOk, arith}
 
 -- places in two tables and in the stores, where a row takes three of each table
 abbrev pub rooms : ℕ → ℕ → ℕ → ℕ → ℕ

@@ -1,5 +1,5 @@
 -- How many items of each kind lie in front of a row.
-use Rattle.std.proofs.Common.{◌≡◌, ℕ, zero, suc, ◌+◌, ◌-◌, ◌<◌, ◌≤◌, List, [], ◌∷◌, ◌++◌, map, take, drop, length, replicate, slice_get, get_or, Option, Some, refl, sym, ap, subst, ◌∙◌, arith}
+use Rattle.std.proofs.Common.{◌≡◌, ℕ, zero, suc, ◌+◌, ◌-◌, ◌≤◌, List, [], ◌∷◌, ◌++◌, map, take, drop, length, replicate, slice_get, get_or, Some, refl, sym, ap, ◌∙◌, arith}
 use Rattle.std.specs.List.{filter_map}
 use Rattle.std.proofs.Math.Seq.{take-add}
 use Rattle.block_column.specs.declared.slot.Slot.{Slot}
@@ -9,10 +9,10 @@ use Rattle.block_column.specs.declared.block.Kind.TheVariants.{Empty, Number, Wo
 use Rattle.block_column.specs.declared.block.Block.{Block}
 use Rattle.block_column.specs.declared.counts.Counts.{Counts}
 use Rattle.block_column.specs.Kinds.{kind_of}
-use Rattle.block_column.specs.Counting.{no_items, total, counted, tallied, tally}
+use Rattle.block_column.specs.Counting.{total, counted, tallied}
 use Rattle.block_column.specs.Stores.{a_number, a_text, a_fault, a_raw, a_code, IsOneRow}
 use Rattle.block_column.specs.Blocks.{counts_from}
-use Rattle.block_column.proofs.Laid.{Laid, Lies, Alike, laid-at, alike-fewer}
+use Rattle.block_column.proofs.Laid.{Laid, Lies, laid-at, alike-fewer}
 
 -- d counts the items of s on from c
 pub record CountsOn (c d : Counts) (s : List Slot) : Type 0 where

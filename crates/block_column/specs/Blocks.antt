@@ -1,5 +1,5 @@
 -- The blocks of a column: its maximal runs of slots of one kind.
-use Rattle.std.specs.Prelude.{◌≡◌, ℕ, ℤ, pos, ◌+◌, ◌-◌, List, [], ◌∷◌, ◌++◌, map, drop, replicate, get_or, Option, Some}
+use Rattle.std.specs.Prelude.{ℕ, ℤ, pos, ◌+◌, ◌-◌, List, [], ◌∷◌, ◌++◌, map, drop, replicate, get_or, Option, Some}
 use Rattle.calc_model.specs.declared.fault.Fault.{Fault}
 use Rattle.calc_model.specs.declared.fault.Fault.TheVariants.{NA}
 use Rattle.run_tables.specs.Runs.{Run, runs_of}

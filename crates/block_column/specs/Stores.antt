@@ -1,10 +1,10 @@
 -- The items of each kind of slot, in the order of their rows.
-use Rattle.std.specs.Prelude.{◌≡◌, ℕ, ℤ, ◌+◌, ◌-◌, ◌≤◌, min, List, [], ◌∷◌, ◌++◌, take, drop, Option, None, Some, vec_len}
+use Rattle.std.specs.Prelude.{◌≡◌, ℕ, ℤ, ◌+◌, ◌-◌, ◌≤◌, min, List, ◌++◌, take, drop, Option, None, Some, vec_len}
 use Rattle.std.specs.Vec.{vec_capacity}
 use Rattle.std.specs.List.{filter_map}
 use Rattle.calc_model.specs.declared.fault.Fault.{Fault}
 use Rattle.block_column.specs.declared.slot.Slot.{Slot}
-use Rattle.block_column.specs.declared.slot.Slot.TheVariants.{Empty, Number, Words, Bad, Raw, Formula}
+use Rattle.block_column.specs.declared.slot.Slot.TheVariants.{Number, Words, Bad, Raw, Formula}
 use Rattle.block_column.specs.declared.counts.Counts.{Counts}
 use Rattle.block_column.specs.declared.stores.Stores.{Stores}
 

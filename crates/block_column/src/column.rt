@@ -71,7 +71,8 @@ impl BlockColumn {
         ensures err { OnErr result (self.new.slots ≡ self.old.slots) }
     {
         let alloc = self.alloc;
-        self.table.fill(alloc, first - 1, last, last + 1 - first, slot)
+        self.table
+            .fill(alloc, first - 1, last, last + 1 - first, slot)
     }
 
     /// Makes neighbouring rows empty. It is linear in the blocks and in the items behind the rows.
@@ -84,7 +85,8 @@ impl BlockColumn {
         ensures spare { OnOk result (self.old.spare ≤ self.new.spare + 1) }
     {
         let alloc = self.alloc;
-        self.table.fill(alloc, first - 1, last, last + 1 - first, &Slot::Empty)
+        self.table
+            .fill(alloc, first - 1, last, last + 1 - first, &Slot::Empty)
     }
 
     /// Puts in empty rows from a place on, and drops as many at the end with what they hold. It is

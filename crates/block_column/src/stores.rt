@@ -129,11 +129,26 @@ impl Stores {
         ensures room { store_room self.old ≤ store_room self.new + 1 }
     {
         let item = Item::of(slot);
-        put_one(&mut self.numbers, low.numbers as usize, high.numbers as usize, item.number);
-        put_one(&mut self.words, low.words as usize, high.words as usize, item.words);
+        put_one(
+            &mut self.numbers,
+            low.numbers as usize,
+            high.numbers as usize,
+            item.number,
+        );
+        put_one(
+            &mut self.words,
+            low.words as usize,
+            high.words as usize,
+            item.words,
+        );
         put_one(&mut self.bad, low.bad as usize, high.bad as usize, item.bad);
         put_one(&mut self.raw, low.raw as usize, high.raw as usize, item.raw);
-        put_one(&mut self.codes, low.codes as usize, high.codes as usize, item.code);
+        put_one(
+            &mut self.codes,
+            low.codes as usize,
+            high.codes as usize,
+            item.code,
+        );
     }
 
     /// Puts items in the place of those from the low places to the high ones.
@@ -143,11 +158,26 @@ impl Stores {
         ensures items { (s : List Slot) → Holds more s → IsReplaced self.old self.new low high s }
         ensures room { Holds more [] → store_room self.old ≤ store_room self.new }
     {
-        put_many(&mut self.numbers, low.numbers as usize, high.numbers as usize, more.numbers);
-        put_many(&mut self.words, low.words as usize, high.words as usize, more.words);
+        put_many(
+            &mut self.numbers,
+            low.numbers as usize,
+            high.numbers as usize,
+            more.numbers,
+        );
+        put_many(
+            &mut self.words,
+            low.words as usize,
+            high.words as usize,
+            more.words,
+        );
         put_many(&mut self.bad, low.bad as usize, high.bad as usize, more.bad);
         put_many(&mut self.raw, low.raw as usize, high.raw as usize, more.raw);
-        put_many(&mut self.codes, low.codes as usize, high.codes as usize, more.codes);
+        put_many(
+            &mut self.codes,
+            low.codes as usize,
+            high.codes as usize,
+            more.codes,
+        );
     }
 
     /// The items of so many rows that hold a slot.

@@ -196,7 +196,8 @@ impl Table {
         ensures { slice_get (slots_of self.now) (row - 1) ≡ Some (lent_slot result) }
     {
         let (block, counts) = self.block_at(row);
-        self.stores.lend(block.kind, counts.with(block.kind, row - block.first))
+        self.stores
+            .lend(block.kind, counts.with(block.kind, row - block.first))
     }
 
     /// Puts a slot in a row.
@@ -213,7 +214,13 @@ impl Table {
         let low = counts.with(block.kind, row - block.first);
         let high = low.with(block.kind, 1);
         self.stores.reserve(1)?;
-        edit_row(&mut self.blocks, &mut self.counts, row, block.kind, slot.kind())?;
+        edit_row(
+            &mut self.blocks,
+            &mut self.counts,
+            row,
+            block.kind,
+            slot.kind(),
+        )?;
         self.stores.put(low, high, slot);
         Ok(())
     }
@@ -243,7 +250,14 @@ impl Table {
         let low = self.ahead(from);
         let high = self.ahead(to);
         self.stores.make_room(&more)?;
-        edit_blocks(&mut self.blocks, &mut self.counts, from, to, rows, slot.kind())?;
+        edit_blocks(
+            &mut self.blocks,
+            &mut self.counts,
+            from,
+            to,
+            rows,
+            slot.kind(),
+        )?;
         self.stores.replace(low, high, more);
         Ok(())
     }
@@ -281,6 +295,12 @@ impl Table {
     {
         self.reserve_places(2)?;
         self.fill(alloc, place - 1, place - 1 + count, 0, &Slot::Empty)?;
-        self.fill(alloc, LAST_ROW - count, LAST_ROW - count, count, &Slot::Empty)
+        self.fill(
+            alloc,
+            LAST_ROW - count,
+            LAST_ROW - count,
+            count,
+            &Slot::Empty,
+        )
     }
 }

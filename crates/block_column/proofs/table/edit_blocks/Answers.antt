@@ -1,13 +1,9 @@
-use Rattle.std.proofs.Common.{◌≡◌, ◌+◌, ◌-◌, ◌≤◌, map, length, Some, sym, ap, subst, ◌∙◌, arith}
+use Rattle.std.proofs.Common.{map, Some, sym, subst, arith}
 use Rattle.std.specs.List.{All}
 use Rattle.std.specs.Option.{option_map}
 use Rattle.std.proofs.lemmas.List.{length-map}
-use Rattle.calc_addr.specs.declared.cell.TheConstants.{LAST_ROW}
 use Rattle.run_tables.specs.Edges.{HasSmallRows}
-use Rattle.run_tables.specs.Runs.{Rises, runs_of}
-use Rattle.run_tables.specs.Rows.{spliced}
-use Rattle.run_tables.proofs.RowEdits.{length-spliced}
-use Rattle.block_column.specs.Kinds.{same_kind}
+use Rattle.run_tables.specs.Runs.{Rises}
 use Rattle.block_column.specs.Blocks.{block_run, block_kinds}
 use Rattle.block_column.proofs.Recounts.{Edited, edited, runs-in_order, runs-small}
 use Rattle.block_column.proofs.table.edit_blocks.Goals as goal

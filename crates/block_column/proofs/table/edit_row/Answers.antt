@@ -1,4 +1,4 @@
-use Rattle.std.proofs.Common.{sym, arith, ◌-◌, suc, ◌∙◌}
+use Rattle.std.proofs.Common.{sym, arith, ◌-◌, ◌∙◌}
 use Rattle.block_column.specs.KindTests.{kinds-decided}
 use Rattle.block_column.proofs.Kept.{same-row}
 use Rattle.block_column.proofs.table.edit_row.Goals as goal

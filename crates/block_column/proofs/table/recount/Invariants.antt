@@ -1,4 +1,4 @@
-use Rattle.std.proofs.Common.{◌≡◌, ◌+◌, ◌≤◌, ◌++◌, map, drop, length, vec_len}
+use Rattle.std.proofs.Common.{◌≡◌, ◌+◌, ◌++◌, map, drop, vec_len}
 use Rattle.std.specs.Vec.{vec_capacity}
 use Rattle.run_tables.specs.Runs.{Rises}
 use Rattle.block_column.specs.Counting.{no_items, total}

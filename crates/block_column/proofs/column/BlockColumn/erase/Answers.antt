@@ -1,7 +1,6 @@
-use Rattle.std.proofs.Common.{◌+◌, ◌-◌, sym, ap, ◌∙◌}
-use Rattle.std.proofs.Math.ListN.{set}
+use Rattle.std.proofs.Common.{◌-◌, ap, ◌∙◌}
 use Rattle.std.proofs.lemmas.Result.{on_ok_weaker, on_err_weaker}
-use Rattle.run_tables.specs.Rows.{rows_set, rows_inserted, rows_erased}
+use Rattle.run_tables.specs.Rows.{rows_erased}
 use Rattle.block_column.specs.declared.slot.Slot.TheVariants.{Empty}
 use Rattle.block_column.proofs.Columns.{erase-left, same-left, either}
 use Rattle.block_column.proofs.column.BlockColumn.erase.Goals as goal

@@ -1,7 +1,6 @@
-use Rattle.std.proofs.Common.{◌≡◌, ◌+◌, ◌≤◌, ap, sym, ◌∙◌, length, arith}
+use Rattle.std.proofs.Common.{ap, ◌∙◌, arith}
 use Rattle.std.specs.List.{count_by}
 use Rattle.block_column.specs.Kinds.{is_filled}
-use Rattle.block_column.specs.Stores.{item_count}
 use Rattle.block_column.specs.Tables.{slots_of}
 use Rattle.block_column.proofs.Columns.{counted-items}
 use Rattle.std.proofs.lemmas.List.Sums.{count_by-le-length}

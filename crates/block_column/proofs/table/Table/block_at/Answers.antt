@@ -1,7 +1,6 @@
-use Rattle.std.proofs.Common.{◌≡◌, ◌≤◌, ◌-◌, length, map, get_or, sym, ap, subst, ◌∙◌, arith}
+use Rattle.std.proofs.Common.{◌-◌, length, map, get_or, ap, subst, ◌∙◌, arith}
 use Rattle.run_tables.specs.Edges.{IsFirstPast}
-use Rattle.block_column.specs.Blocks.{block_run, counts_from}
-use Rattle.block_column.specs.Counting.{no_items}
+use Rattle.block_column.specs.Blocks.{block_run}
 use Rattle.block_column.specs.Tables.{slots_of}
 use Rattle.block_column.proofs.AtRows.{at-some, at-row}
 use Rattle.block_column.proofs.Kept.{table-laid}

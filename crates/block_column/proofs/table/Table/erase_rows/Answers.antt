@@ -1,8 +1,7 @@
-use Rattle.std.proofs.Common.{◌≡◌, ◌+◌, ◌-◌, ◌≤◌, length, sym, ap, subst, ◌∙◌, refl, arith}
+use Rattle.std.proofs.Common.{◌+◌, ◌-◌, length, ap, subst, refl, arith}
 use Rattle.std.proofs.lemmas.Result.{on_ok_weaker}
-use Rattle.calc_addr.specs.declared.cell.TheConstants.{LAST_ROW}
 use Rattle.block_column.specs.declared.slot.Slot.TheVariants.{Empty}
-use Rattle.block_column.specs.Tables.{IsTableOf, HasPlaces, slots_of}
+use Rattle.block_column.specs.Tables.{IsTableOf, slots_of}
 use Rattle.block_column.proofs.Columns.{step, length-step, on-err, no-err, erased}
 use Rattle.block_column.proofs.Kept.{slots-back, table-again}
 use Rattle.block_column.proofs.table.Table.erase_rows.Goals as goal

@@ -1,4 +1,4 @@
-use Rattle.std.proofs.Common.{◌≡◌, ◌+◌, ◌-◌, ◌≤◌, length, map, Some, sym, ap, subst, ◌∙◌, arith, vec_len}
+use Rattle.std.proofs.Common.{length, map, Some, ap, ◌∙◌, arith, vec_len}
 use Rattle.std.specs.Vec.{vec_capacity}
 use Rattle.std.proofs.lemmas.List.{length-map}
 use Rattle.run_tables.specs.Rows.{spliced}

@@ -1,4 +1,4 @@
-use Rattle.std.proofs.Common.{◌-◌, sym, ap, ◌∙◌, arith}
+use Rattle.std.proofs.Common.{◌-◌, sym, ◌∙◌, arith}
 use Rattle.block_column.specs.Tables.{slots_of, stored_slot}
 use Rattle.block_column.proofs.Kept.{stored-at, is-some}
 use Rattle.block_column.proofs.table.Table.get.Goals as goal

@@ -1,7 +1,6 @@
 use Rattle.std.proofs.Common.{◌-◌, ◌++◌, ◌∷◌, [], ap, ◌∙◌, arith}
 use Rattle.calc_addr.specs.declared.cell.TheConstants.{LAST_ROW}
 use Rattle.block_column.specs.declared.block.Kind.TheVariants.{Empty}
-use Rattle.block_column.specs.Counting.{no_items}
 use Rattle.block_column.specs.Tables.{no_slots}
 use Rattle.block_column.proofs.Kept.{empty-table}
 use Rattle.block_column.proofs.table.Table.new.Goals as goal

@@ -1,11 +1,10 @@
-use Rattle.std.proofs.Common.{◌≡◌, ◌+◌, ◌-◌, ◌≤◌, length, map, slice_get, Some, sym, ap, subst, ◌∙◌, arith, vec_len}
+use Rattle.std.proofs.Common.{◌-◌, length, map, slice_get, Some, sym, ap, subst, ◌∙◌, arith, vec_len}
 use Rattle.std.specs.Vec.{vec_capacity}
 use Rattle.std.proofs.lemmas.List.{length-map}
 use Rattle.std.proofs.lemmas.Option.{slice_get-map}
 use Rattle.run_tables.specs.Rows.{spliced}
 use Rattle.run_tables.specs.Runs.{runs_of}
 use Rattle.block_column.specs.Kinds.{kind_of, same_kind}
-use Rattle.block_column.specs.Counting.{counted, tally}
 use Rattle.block_column.specs.Stores.{store_room, IsOneRow}
 use Rattle.block_column.specs.Blocks.{block_kinds}
 use Rattle.block_column.specs.Tables.{slots_of}
