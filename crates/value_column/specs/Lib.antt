@@ -1,0 +1,2 @@
+-- Lanes: a list of items by row, which ends where plain items alone follow.
+pub mod Lanes

@@ -1,0 +1,5 @@
+//! What the cells of columns show, kept as one list of items a kind, by row.
+#![tactic(auto)]
+
+mod lane;
+mod numbers;
