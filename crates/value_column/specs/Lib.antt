@@ -1,2 +1,3 @@
 -- Lanes: a list of items by row, which ends where plain items alone follow.
 pub mod Lanes
+pub mod Rows

@@ -151,7 +151,10 @@ pub(crate) fn open_rows<T: Plain>(alloc: Global, lane: &mut Vec<T>, from: usize,
         → min (vec_len lane.old) (LAST_ROW - count) + count ≤ vec_capacity lane.old }
     ensures items { (r : ℕ) → r < LAST_ROW → slice_index_or lane.new.items r T.plain
         ≡ opened from count T.plain (λ q. slice_index_or lane.old.items q T.plain) r }
-    ensures most { vec_len lane.new ≤ max (vec_len lane.old) LAST_ROW }
+    ensures most { vec_len lane.new ≤ LAST_ROW }
+    ensures front { (r : ℕ) → r < from → r < vec_len lane.old → r < vec_len lane.new }
+    ensures back { (r : ℕ) → r + count < LAST_ROW → from ≤ r → r < vec_len lane.old
+        → r + count < vec_len lane.new }
     ensures capacity { vec_capacity lane.new ≡ vec_capacity lane.old }
 {
     lane.truncate(LAST_ROW as usize - count);
@@ -165,7 +168,7 @@ pub(crate) fn close_rows<T: Plain>(lane: &mut Vec<T>, from: usize, count: usize)
     requires { from + count ≤ LAST_ROW }
     ensures items { (r : ℕ) → slice_index_or lane.new.items r T.plain
         ≡ closed from count (λ q. slice_index_or lane.old.items q T.plain) r }
-    ensures most { vec_len lane.new ≤ vec_len lane.old }
+    ensures len { vec_len lane.new ≡ min (vec_len lane.old) (max from (vec_len lane.old - count)) }
     ensures capacity { vec_capacity lane.new ≡ vec_capacity lane.old }
 {
     let len = lane.len();

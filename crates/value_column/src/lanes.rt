@@ -1,0 +1,199 @@
+ghost use Rattle.std.specs.Prelude.{◌≡◌, ◌≢◌, ℕ, ◌≤◌, ◌<◌, ◌+◌, ◌-◌, ◌++◌, take, drop, replicate, vec_len, OnOk, OnErr, IsOk, List, slice_index_or};
+ghost use Rattle.calc_addr.specs.declared.cell.TheConstants.{LAST_ROW};
+ghost use Rattle.calc_model.specs.ValueTexts.{lent};
+ghost use Rattle.calc_model.specs.declared.value.Value.TheVariants as value;
+ghost use Rattle.std.specs.Vec.{vec_capacity};
+ghost use Rattle.value_column.specs.declared.lane.Tag.TheVariants as tag;
+ghost use Rattle.value_column.specs.Lanes.{closed, opened};
+ghost use Rattle.value_column.specs.Rows.{AreLanes, HasRoom, IsItem, IsLonger, IsReady, cleared, item_value, untagged, value_at};
+
+use crate::item::Item;
+use crate::lane::{Tag, close_rows, grow, make_room, open_rows, room_to_open};
+use crate::numbers::{number, small_number};
+use calc_addr::NoMemory;
+use calc_model::{Fault, Seen, Text};
+use std::alloc::Global;
+
+/// What the rows show: a tag for each, and its item in the lane of the tag. The first row's number is
+/// 0.
+#[derive(Debug, Drop)]
+pub(crate) struct Lanes {
+    pub(crate) tags: Vec<Tag>,
+    pub(crate) small: Vec<i64>,
+    pub(crate) wide: Vec<i128>,
+    pub(crate) words: Vec<Text>,
+    pub(crate) bad: Vec<Fault>,
+}
+
+/// Makes neighbouring tags blank.
+fn blank_tags(tags: &mut Vec<Tag>, first: usize, end: usize)
+    requires order { first ≤ end }
+    requires within { end ≤ vec_len tags.old }
+    ensures tags { tags.new.items ≡ take first tags.old.items
+        ++ (replicate (end - first) tag.Blank ++ drop end tags.old.items) }
+    ensures len { vec_len tags.new ≡ vec_len tags.old }
+    ensures capacity { vec_capacity tags.new ≡ vec_capacity tags.old }
+{
+    tags[first..end].fill(Tag::Blank);
+}
+
+/// Makes the tags of rows blank.
+fn clear_tags(tags: &mut Vec<Tag>, first: usize, end: usize)
+    ensures tags { (r : ℕ) → slice_index_or tags.new.items r tag.Blank
+        ≡ untagged first end (λ q. slice_index_or tags.old.items q tag.Blank) r }
+    ensures len { vec_len tags.new ≡ vec_len tags.old }
+    ensures capacity { vec_capacity tags.new ≡ vec_capacity tags.old }
+{
+    let end = end.min(tags.len());
+    if first < end {
+        blank_tags(tags, first, end);
+    }
+}
+
+impl Lanes {
+    pub(crate) fn new(alloc: Global) -> Lanes
+        ensures lanes { AreLanes result }
+        ensures blank { (r : ℕ) → value_at result r ≡ value.Blank }
+    {
+        Lanes {
+            tags: Vec::new(alloc),
+            small: Vec::new(alloc),
+            wide: Vec::new(alloc),
+            words: Vec::new(alloc),
+            bad: Vec::new(alloc),
+        }
+    }
+
+    /// What a row shows.
+    pub(crate) fn look(&self, row: usize) -> Seen<'_>
+        requires { AreLanes self.now }
+        ensures { lent result ≡ value_at self.now row }
+    {
+        if row >= self.tags.len() {
+            return Seen::Blank;
+        }
+        match self.tags[row] {
+            Tag::Blank => Seen::Blank,
+            Tag::Small => Seen::Number(small_number(self.small[row])),
+            Tag::Wide => Seen::Number(number(self.wide[row])),
+            Tag::Words => Seen::Words(&self.words[row]),
+            Tag::Bad => Seen::Bad(self.bad[row]),
+        }
+    }
+
+    /// Room for all rows of a sheet in each lane.
+    pub(crate) fn reserve(&mut self) -> Result<(), NoMemory>
+        requires { AreLanes self.old }
+        ensures lanes { AreLanes self.new }
+        ensures same { (r : ℕ) → value_at self.new r ≡ value_at self.old r }
+        ensures ok { OnOk result (HasRoom self.new) }
+    {
+        make_room(&mut self.tags)?;
+        make_room(&mut self.small)?;
+        make_room(&mut self.wide)?;
+        make_room(&mut self.words)?;
+        make_room(&mut self.bad)
+    }
+
+    /// Makes the lanes reach a row that is to show an item.
+    pub(crate) fn ready(&mut self, alloc: Global, row: usize, item: &Item) -> Result<(), NoMemory>
+        requires lanes { AreLanes self.old }
+        requires row { row < LAST_ROW }
+        ensures lanes { AreLanes self.new }
+        ensures same { (r : ℕ) → value_at self.new r ≡ value_at self.old r }
+        ensures ok { OnOk result (IsReady self.new row item.now) }
+        ensures longer { IsLonger self.old self.new }
+        ensures reserved { HasRoom self.old → IsOk result }
+    {
+        grow(alloc, &mut self.tags, row + 1)?;
+        match item {
+            Item::Blank => Ok(()),
+            Item::Small(_raw) => grow(alloc, &mut self.small, row + 1),
+            Item::Wide(_raw) => grow(alloc, &mut self.wide, row + 1),
+            Item::Words(_text) => grow(alloc, &mut self.words, row + 1),
+            Item::Bad(_fault) => grow(alloc, &mut self.bad, row + 1),
+        }
+    }
+
+    /// Makes a row show an item.
+    pub(crate) fn write(&mut self, row: usize, item: Item)
+        requires lanes { AreLanes self.old }
+        requires item { IsItem item }
+        requires ready { IsReady self.old row item }
+        ensures lanes { AreLanes self.new }
+        ensures at { value_at self.new row ≡ item_value item }
+        ensures other { (r : ℕ) → r ≢ row → value_at self.new r ≡ value_at self.old r }
+        ensures longer { IsLonger self.old self.new }
+    {
+        match item {
+            Item::Blank => self.tags[row] = Tag::Blank,
+            Item::Small(raw) => {
+                self.small[row] = raw;
+                self.tags[row] = Tag::Small;
+            }
+            Item::Wide(raw) => {
+                self.wide[row] = raw;
+                self.tags[row] = Tag::Wide;
+            }
+            Item::Words(text) => {
+                self.words[row] = text;
+                self.tags[row] = Tag::Words;
+            }
+            Item::Bad(fault) => {
+                self.bad[row] = fault;
+                self.tags[row] = Tag::Bad;
+            }
+        }
+    }
+
+    /// Makes rows blank, from the first to the one in front of the end.
+    pub(crate) fn clear(&mut self, first: usize, end: usize)
+        requires { AreLanes self.old }
+        ensures lanes { AreLanes self.new }
+        ensures rows { (r : ℕ) → value_at self.new r ≡ cleared first end (value_at self.old) r }
+        ensures longer { IsLonger self.old self.new }
+    {
+        clear_tags(&mut self.tags, first, end);
+    }
+
+    /// Puts in blank rows, and drops those past the last row of a sheet.
+    pub(crate) fn open(
+        &mut self,
+        alloc: Global,
+        from: usize,
+        count: usize,
+    ) -> Result<(), NoMemory>
+        requires lanes { AreLanes self.old }
+        requires within { from + count ≤ LAST_ROW }
+        ensures lanes { AreLanes self.new }
+        ensures ok { OnOk result ((r : ℕ) → r < LAST_ROW
+            → value_at self.new r ≡ opened from count value.Blank (value_at self.old) r) }
+        ensures err { OnErr result ((r : ℕ) → value_at self.new r ≡ value_at self.old r) }
+    {
+        room_to_open(&mut self.tags, from, count)?;
+        room_to_open(&mut self.small, from, count)?;
+        room_to_open(&mut self.wide, from, count)?;
+        room_to_open(&mut self.words, from, count)?;
+        room_to_open(&mut self.bad, from, count)?;
+        open_rows(alloc, &mut self.tags, from, count);
+        open_rows(alloc, &mut self.small, from, count);
+        open_rows(alloc, &mut self.wide, from, count);
+        open_rows(alloc, &mut self.words, from, count);
+        open_rows(alloc, &mut self.bad, from, count);
+        Ok(())
+    }
+
+    /// Takes out rows.
+    pub(crate) fn close(&mut self, from: usize, count: usize)
+        requires lanes { AreLanes self.old }
+        requires within { from + count ≤ LAST_ROW }
+        ensures lanes { AreLanes self.new }
+        ensures rows { (r : ℕ) → value_at self.new r ≡ closed from count (value_at self.old) r }
+    {
+        close_rows(&mut self.tags, from, count);
+        close_rows(&mut self.small, from, count);
+        close_rows(&mut self.wide, from, count);
+        close_rows(&mut self.words, from, count);
+        close_rows(&mut self.bad, from, count);
+    }
+}
