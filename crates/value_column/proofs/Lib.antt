@@ -1,4 +1,12 @@
 -- Cleared: rows of a lane that are made plain.
+-- Copied: rows that show copied numbers.
 -- Opened: lanes with rows put in.
+-- Spare: room for all rows.
+-- Tabs: a column as a list.
+-- Written: one more row written.
 pub mod Cleared
+pub mod Copied
 pub mod Opened
+pub mod Spare
+pub mod Tabs
+pub mod Written

@@ -18,13 +18,13 @@ pub record Opened {T : Type 0} (a n : ℕ) (d : T) (xs ys : List T) : Type 0 whe
   pub items : (r : ℕ) → r < LAST_ROW → get_or ys r d ≡ opened a n d (λ q. get_or xs q d) r
 
 -- the rows in front, those put in, and those behind
-in_front : {T : Type 0} (a n r : ℕ) (d : T) (f : ℕ → T) → r < a → opened a n d f r ≡ f r
+pub in_front : {T : Type 0} (a n r : ℕ) (d : T) (f : ℕ → T) → r < a → opened a n d f r ≡ f r
 in_front a n r d f h = cond-true (nat_lt r a) _ _ (lt-ltb r a h)
 
-put_in : {T : Type 0} (a n r : ℕ) (d : T) (f : ℕ → T) → a ≤ r → r < a + n → opened a n d f r ≡ d
+pub put_in : {T : Type 0} (a n r : ℕ) (d : T) (f : ℕ → T) → a ≤ r → r < a + n → opened a n d f r ≡ d
 put_in a n r d f h k = cond-false (nat_lt r a) _ _ (le-ltb r a h) ∙ cond-true (nat_lt r (a + n)) _ _ (lt-ltb r (a + n) k)
 
-behind : {T : Type 0} (a n r : ℕ) (d : T) (f : ℕ → T) → a + n ≤ r → opened a n d f r ≡ f (r - n)
+pub behind : {T : Type 0} (a n r : ℕ) (d : T) (f : ℕ → T) → a + n ≤ r → opened a n d f r ≡ f (r - n)
 behind a n r d f h = cond-false (nat_lt r a) _ _ (le-ltb r a (omega arith)) ∙ cond-false (nat_lt r (a + n)) _ _ (le-ltb r (a + n) h)
 
 value-opened : (b c : Bool) (t t2 : Tag) (n n2 w w2 : ℤ) (x x2 : List ℕ) (f f2 : Fault) → value_in (cond b t (cond c tag.Blank t2)) (cond b n (cond c (pos 0) n2)) (cond b w (cond c (pos 0) w2)) (cond b x (cond c [] x2)) (cond b f (cond c NA f2)) ≡ cond b (value_in t n w x f) (cond c value.Blank (value_in t2 n2 w2 x2 f2))

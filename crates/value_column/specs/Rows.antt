@@ -1,5 +1,5 @@
 -- What the rows of a column show, by their tags and items. The first row's number is 0.
-use Rattle.std.specs.Prelude.{◌≡◌, ℕ, ℤ, pos, ◌≤◌, ◌<◌, ◌&&◌, nat_le, nat_lt, if◌then◌else◌, List, [], map, slice_index_or, vec_len}
+use Rattle.std.specs.Prelude.{◌≡◌, ℕ, ℤ, pos, negsuc, int_le, ◌+◌, ◌^◌, ◌-◌, Bool, ◌≤◌, ◌<◌, ◌&&◌, nat_le, nat_lt, if◌then◌else◌, List, [], map, slice_index_or, vec_len}
 use Rattle.std.specs.List.{range_with_len}
 use Rattle.std.specs.Vec.{vec_capacity}
 use Rattle.calc_num.specs.Decimals.{IsRaw}
@@ -61,10 +61,21 @@ tag_of (Wide n) = tag.Wide
 tag_of (Words text) = tag.Words
 tag_of (Bad fault) = tag.Bad
 
--- the lanes have a row for the item
-pub record IsReady (t : Lanes) (r : ℕ) (item : Item) : Type 0 where
+-- the raw number fits in 64 bits
+abbrev pub is_small : ℤ → Bool
+is_small n = int_le (negsuc (2 ^ 63 - 1)) n && int_le n (pos (2 ^ 63 - 1))
+
+-- the lane that keeps a value
+abbrev pub value_tag : Value → Tag
+value_tag (value.Number n) = if is_small n then tag.Small else tag.Wide
+value_tag (value.Words text) = tag.Words
+value_tag (value.Bad fault) = tag.Bad
+value_tag value.Blank = tag.Blank
+
+-- the lanes have a row for a tag
+pub record IsReady (t : Lanes) (r : ℕ) (g : Tag) : Type 0 where
   pub tags : r < vec_len t.tags
-  pub lane : LaneHas t r (tag_of item)
+  pub lane : LaneHas t r g
 
 -- no lane is shorter, nor has less room
 pub record IsLonger (old new : Lanes) : Type 0 where
@@ -89,3 +100,25 @@ cleared a b f r = if nat_le a r && nat_lt r b then value.Blank else f r
 -- the tags of those rows are blank
 abbrev pub untagged : ℕ → ℕ → (ℕ → Tag) → ℕ → Tag
 untagged a b f r = if nat_le a r && nat_lt r b then tag.Blank else f r
+
+-- the values of a column's rows
+unfoldable pub column_of : Lanes → List Value
+column_of t = map (value_at t) (range_with_len 0 LAST_ROW)
+
+-- as many rows as can be asked for
+unfoldable pub ANY : ℕ
+ANY = 2 ^ 64 - 1
+
+-- how many single rows can be set or cleared before memory is asked for: any, or none
+abbrev pub spare_of : Lanes → ℕ
+spare_of t =
+    if nat_le LAST_ROW (vec_capacity t.tags) && (nat_le LAST_ROW (vec_capacity t.small) && (nat_le LAST_ROW (vec_capacity t.wide)
+    && (nat_le LAST_ROW (vec_capacity t.words) && nat_le LAST_ROW (vec_capacity t.bad)))) then ANY else 0
+
+-- n rows behind the first a show what is given for each
+abbrev pub written : ℕ → ℕ → (ℕ → Value) → (ℕ → Value) → ℕ → Value
+written a n vs f r = if nat_le a r && nat_lt r (a + n) then vs (r - a) else f r
+
+-- the lanes have rows for the first n of the values
+abbrev pub AreReady : Lanes → ℕ → List Value → ℕ → Type 0
+AreReady t a vs n = (k : ℕ) → k < n → IsReady t (a + k) (value_tag (slice_index_or vs k value.Blank))

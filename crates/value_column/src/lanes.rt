@@ -1,11 +1,11 @@
-ghost use Rattle.std.specs.Prelude.{◌≡◌, ◌≢◌, ℕ, ◌≤◌, ◌<◌, ◌+◌, ◌-◌, ◌++◌, take, drop, replicate, vec_len, OnOk, OnErr, IsOk, List, slice_index_or};
+ghost use Rattle.std.specs.Prelude.{◌≡◌, ◌≢◌, ℕ, ◌≤◌, ◌<◌, ◌+◌, ◌-◌, ◌++◌, take, drop, replicate, length, vec_len, OnOk, OnErr, IsOk, List, slice_index_or};
 ghost use Rattle.calc_addr.specs.declared.cell.TheConstants.{LAST_ROW};
 ghost use Rattle.calc_model.specs.ValueTexts.{lent};
 ghost use Rattle.calc_model.specs.declared.value.Value.TheVariants as value;
 ghost use Rattle.std.specs.Vec.{vec_capacity};
 ghost use Rattle.value_column.specs.declared.lane.Tag.TheVariants as tag;
 ghost use Rattle.value_column.specs.Lanes.{closed, opened};
-ghost use Rattle.value_column.specs.Rows.{AreLanes, HasRoom, IsItem, IsLonger, IsReady, cleared, item_value, untagged, value_at};
+ghost use Rattle.value_column.specs.Rows.{AreLanes, HasRoom, IsItem, IsLonger, IsReady, cleared, item_value, tag_of, untagged, value_at};
 
 use crate::item::Item;
 use crate::lane::{Tag, close_rows, grow, make_room, open_rows, room_to_open};
@@ -25,16 +25,26 @@ pub(crate) struct Lanes {
     pub(crate) bad: Vec<Fault>,
 }
 
-/// Makes neighbouring tags blank.
-fn blank_tags(tags: &mut Vec<Tag>, first: usize, end: usize)
+/// Gives neighbouring rows a tag.
+pub(crate) fn put_tags(tags: &mut Vec<Tag>, first: usize, end: usize, tag: Tag)
     requires order { first ≤ end }
     requires within { end ≤ vec_len tags.old }
     ensures tags { tags.new.items ≡ take first tags.old.items
-        ++ (replicate (end - first) tag.Blank ++ drop end tags.old.items) }
+        ++ (replicate (end - first) tag ++ drop end tags.old.items) }
     ensures len { vec_len tags.new ≡ vec_len tags.old }
     ensures capacity { vec_capacity tags.new ≡ vec_capacity tags.old }
 {
-    tags[first..end].fill(Tag::Blank);
+    tags[first..end].fill(tag);
+}
+
+/// Puts items in the rows behind the first ones.
+pub(crate) fn put_items(lane: &mut Vec<i64>, from: usize, items: &[i64])
+    requires { from + length items.now ≤ vec_len lane.old }
+    ensures items { lane.new.items ≡ take from lane.old.items
+        ++ (items.now ++ drop (from + length items.now) lane.old.items) }
+    ensures len { vec_len lane.new ≡ vec_len lane.old }
+{
+    lane[from..from + items.len()].copy_from_slice(items);
 }
 
 /// Makes the tags of rows blank.
@@ -46,7 +56,7 @@ fn clear_tags(tags: &mut Vec<Tag>, first: usize, end: usize)
 {
     let end = end.min(tags.len());
     if first < end {
-        blank_tags(tags, first, end);
+        put_tags(tags, first, end, Tag::Blank);
     }
 }
 
@@ -95,23 +105,23 @@ impl Lanes {
         make_room(&mut self.bad)
     }
 
-    /// Makes the lanes reach a row that is to show an item.
-    pub(crate) fn ready(&mut self, alloc: Global, row: usize, item: &Item) -> Result<(), NoMemory>
+    /// Makes the lanes reach a row that is to have a tag.
+    pub(crate) fn ready(&mut self, alloc: Global, row: usize, tag: Tag) -> Result<(), NoMemory>
         requires lanes { AreLanes self.old }
         requires row { row < LAST_ROW }
         ensures lanes { AreLanes self.new }
         ensures same { (r : ℕ) → value_at self.new r ≡ value_at self.old r }
-        ensures ok { OnOk result (IsReady self.new row item.now) }
+        ensures ok { OnOk result (IsReady self.new row tag) }
         ensures longer { IsLonger self.old self.new }
         ensures reserved { HasRoom self.old → IsOk result }
     {
         grow(alloc, &mut self.tags, row + 1)?;
-        match item {
-            Item::Blank => Ok(()),
-            Item::Small(_raw) => grow(alloc, &mut self.small, row + 1),
-            Item::Wide(_raw) => grow(alloc, &mut self.wide, row + 1),
-            Item::Words(_text) => grow(alloc, &mut self.words, row + 1),
-            Item::Bad(_fault) => grow(alloc, &mut self.bad, row + 1),
+        match tag {
+            Tag::Blank => Ok(()),
+            Tag::Small => grow(alloc, &mut self.small, row + 1),
+            Tag::Wide => grow(alloc, &mut self.wide, row + 1),
+            Tag::Words => grow(alloc, &mut self.words, row + 1),
+            Tag::Bad => grow(alloc, &mut self.bad, row + 1),
         }
     }
 
@@ -119,7 +129,7 @@ impl Lanes {
     pub(crate) fn write(&mut self, row: usize, item: Item)
         requires lanes { AreLanes self.old }
         requires item { IsItem item }
-        requires ready { IsReady self.old row item }
+        requires ready { IsReady self.old row (tag_of item) }
         ensures lanes { AreLanes self.new }
         ensures at { value_at self.new row ≡ item_value item }
         ensures other { (r : ℕ) → r ≢ row → value_at self.new r ≡ value_at self.old r }

@@ -1,7 +1,11 @@
 //! What the cells of columns show, kept as one list of items a kind, by row.
 #![tactic(auto)]
 
+mod column;
 mod item;
 mod lane;
 mod lanes;
 mod numbers;
+mod writes;
+
+pub use column::ValueColumn;

@@ -5,5 +5,5 @@ use Rattle.value_column.proofs.lanes.clear_tags.Goals as goal
 
 pub returns-then-first-end-clause-tags : goal.returns-then-first-end-clause-tags
 returns-then-first-end-clause-tags c =
-    λ r. ap (λ v. get_or v r tag.Blank) c.blank_tags.ensures.tags
+    λ r. ap (λ v. get_or v r tag.Blank) c.put_tags.ensures.tags
     ∙ plain-rows c.args.tags.now.items tag.Blank c.args.first c.args.end c.min-end.result r (omega (arith, c.min-end.ensures, c.len.ensures, c.args.tags.now.ok)) c.if-first-end.true
