@@ -2,3 +2,4 @@
 pub mod Lanes
 pub mod Rows
 pub mod ValueRows
+pub mod Sheets

@@ -1,5 +1,6 @@
-ghost use Rattle.std.specs.Prelude.{◌≡◌, ◌≢◌, ℕ, ◌≤◌, ◌<◌, ◌+◌, ◌-◌, ◌++◌, take, drop, replicate, length, vec_len, OnOk, OnErr, IsOk, List, slice_index_or};
+ghost use Rattle.std.specs.Prelude.{◌≡◌, ◌≢◌, ℕ, ◌≤◌, ◌<◌, ◌+◌, ◌-◌, ◌++◌, take, drop, replicate, length, ◌↔◌, IsTrue, vec_len, OnOk, OnErr, IsOk, List, slice_index_or};
 ghost use Rattle.calc_addr.specs.declared.cell.TheConstants.{LAST_ROW};
+ghost use Rattle.calc_model.specs.UsedCells.{values_of};
 ghost use Rattle.calc_model.specs.ValueTexts.{lent};
 ghost use Rattle.calc_model.specs.declared.value.Value.TheVariants as value;
 ghost use Rattle.std.specs.Vec.{vec_capacity};
@@ -11,7 +12,7 @@ use crate::item::Item;
 use crate::lane::{Tag, close_rows, grow, make_room, open_rows, room_to_open};
 use crate::numbers::{number, small_number};
 use calc_addr::NoMemory;
-use calc_model::{Fault, Seen, Text};
+use calc_model::{Fault, Piece, Seen, Text};
 use std::alloc::Global;
 
 /// What the rows show: a tag for each, and its item in the lane of the tag. The first row's number is
@@ -23,6 +24,12 @@ pub(crate) struct Lanes {
     pub(crate) wide: Vec<i128>,
     pub(crate) words: Vec<Text>,
     pub(crate) bad: Vec<Fault>,
+}
+
+fn is_same(left: Tag, right: Tag) -> bool
+    ensures { IsTrue result ↔ (left ≡ right) }
+{
+    left == right
 }
 
 /// Gives neighbouring rows a tag.
@@ -88,6 +95,60 @@ impl Lanes {
             Tag::Wide => Seen::Number(number(self.wide[row])),
             Tag::Words => Seen::Words(&self.words[row]),
             Tag::Bad => Seen::Bad(self.bad[row]),
+        }
+    }
+
+    /// The tag of a row.
+    pub(crate) fn tag(&self, row: usize) -> Tag
+        ensures { result ≡ slice_index_or self.now.tags.items row tag.Blank }
+    {
+        if row < self.tags.len() {
+            self.tags[row]
+        } else {
+            Tag::Blank
+        }
+    }
+
+    /// The end of the rows from the first on that have its tag, at most `end`. It is linear in these.
+    pub(crate) fn run_end(&self, first: usize, end: usize) -> usize
+        requires { first < end }
+        ensures some { first < result }
+        ensures within { result ≤ end }
+        ensures tags { (k : ℕ) → first ≤ k → k < result
+            → slice_index_or self.now.tags.items k tag.Blank
+            ≡ slice_index_or self.now.tags.items first tag.Blank }
+    {
+        if first >= self.tags.len() {
+            return end;
+        }
+        let tag = self.tags[first];
+        let mut row = first + 1;
+        while row < end && is_same(self.tag(row), tag) {
+            row += 1;
+        }
+        row
+    }
+
+    /// The values of the first rows of some.
+    pub(crate) fn piece(&self, first: usize, end: usize) -> Piece<'_>
+        requires lanes { AreLanes self.now }
+        requires some { first < end }
+        requires within { end ≤ LAST_ROW }
+        ensures some { 1 ≤ length (values_of result) }
+        ensures within { first + length (values_of result) ≤ end }
+        ensures rows { (k : ℕ) → k < length (values_of result)
+            → slice_index_or (values_of result) k value.Blank ≡ value_at self.now (first + k) }
+    {
+        match self.tag(first) {
+            Tag::Blank => Piece::Blank {
+                count: (self.run_end(first, end) - first) as u32,
+            },
+            Tag::Small => Piece::Small {
+                items: &self.small[first..self.run_end(first, end)],
+            },
+            Tag::Wide => Piece::One(self.look(first)),
+            Tag::Words => Piece::One(self.look(first)),
+            Tag::Bad => Piece::One(self.look(first)),
         }
     }
 

@@ -6,6 +6,8 @@ mod item;
 mod lane;
 mod lanes;
 mod numbers;
+mod sheets;
 mod writes;
 
 pub use column::ValueColumn;
+pub use sheets::ValueSheets;
