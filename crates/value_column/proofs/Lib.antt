@@ -3,10 +3,12 @@
 -- Opened: lanes with rows put in.
 -- Spare: room for all rows.
 -- Tabs: a column as a list.
+-- Unmoved: columns that show what they did.
 -- Written: one more row written.
 pub mod Cleared
 pub mod Copied
 pub mod Opened
 pub mod Spare
 pub mod Tabs
+pub mod Unmoved
 pub mod Written
