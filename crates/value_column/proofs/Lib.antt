@@ -1,6 +1,7 @@
 -- Cleared: rows of a lane that are made plain.
 -- Copied: rows that show copied numbers.
 -- Opened: lanes with rows put in.
+-- Shown: what cells show, by their columns.
 -- Spare: room for all rows.
 -- Tabs: a column as a list.
 -- Unmoved: columns that show what they did.
@@ -8,6 +9,7 @@
 pub mod Cleared
 pub mod Copied
 pub mod Opened
+pub mod Shown
 pub mod Spare
 pub mod Tabs
 pub mod Unmoved

@@ -1,5 +1,6 @@
-ghost use Rattle.std.specs.Prelude.{◌≡◌, ◌≤◌, ◌+◌, ◌-◌, length, map, pos, Some, IfOk, OnOk, OnErr, IsOk, slice_get, slice_set, vec_len};
+ghost use Rattle.std.specs.Prelude.{◌≡◌, ◌≤◌, ◌<◌, ℕ, ◌+◌, ◌-◌, length, map, pos, Some, IfOk, OnOk, OnErr, IsOk, slice_get, slice_index_or, slice_set, vec_len};
 ghost use Rattle.run_tables.specs.Rows.{AreRows, IsRowEdit, rows_erased, rows_inserted, rows_set};
+ghost use Rattle.calc_model.specs.UsedCells.{values_of};
 ghost use Rattle.calc_model.specs.ValueTexts.{lent};
 ghost use Rattle.calc_model.specs.declared.value.Value.TheVariants as value;
 ghost use Rattle.value_column.specs.ValueRows.{IsRun, no_values, run_set};
@@ -8,7 +9,7 @@ use crate::item::Item;
 use crate::lane::Tag;
 use crate::lanes::Lanes;
 use calc_addr::NoMemory;
-use calc_model::{Seen, Value};
+use calc_model::{Piece, Seen, Value};
 use std::alloc::Global;
 use std::marker::Model;
 
@@ -132,5 +133,17 @@ impl ValueColumn {
         ensures { slice_get self.now.values (row - 1) ≡ Some (lent result) }
     {
         self.lanes.look(row as usize - 1)
+    }
+
+    /// What the first of some rows show: small numbers, blank rows or one value.
+    pub fn piece(&self, first: u32, last: u32) -> Piece<'_>
+        requires { AreRows first last }
+        ensures some { 1 ≤ length (values_of result) }
+        ensures within { first + length (values_of result) ≤ last + 1 }
+        ensures rows { (k : ℕ) → k < length (values_of result)
+            → slice_index_or (values_of result) k value.Blank
+            ≡ slice_index_or self.now.values (first - 1 + k) value.Blank }
+    {
+        self.lanes.piece(first as usize - 1, last as usize)
     }
 }

@@ -7,6 +7,7 @@ mod lane;
 mod lanes;
 mod numbers;
 mod sheets;
+mod values;
 mod writes;
 
 pub use column::ValueColumn;

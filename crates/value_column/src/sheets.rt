@@ -1,16 +1,14 @@
 ghost use Rattle.std.specs.Option.{option_copied};
 ghost use Rattle.std.specs.Prelude.{◌≡◌, [], ◌≢◌, ℕ, ◌≤◌, ◌<◌, ◌+◌, ◌-◌, ◌^◌, length, map, OnOk, OnErr, IsOk, None, slice_index_or, slice_set, vec_len};
-ghost use Rattle.calc_addr.specs.Places.{IsPlace};
 ghost use Rattle.run_tables.specs.Rows.{AreRows, IsRowEdit, rows_erased, rows_inserted, rows_set};
 ghost use Rattle.calc_addr.specs.declared.cell.TheConstants.{LAST_COL, LAST_SHEET};
-ghost use Rattle.calc_model.specs.UsedCells.{is_circle, is_past, is_used};
 ghost use Rattle.calc_model.specs.declared.value.Value.TheVariants as value;
 ghost use Rattle.value_column.specs.ValueRows.{IsRun, run_set};
-ghost use Rattle.value_column.specs.Sheets.{IsColumn, IsEdited, IsSet, ShowsSame, cell_values, column_in, column_place, shown_in, spare_in};
+ghost use Rattle.value_column.specs.Sheets.{IsColumn, IsEdited, IsSet, ShowsSame, column_in, column_place, shown_in, spare_in};
 
 use crate::column::ValueColumn;
-use calc_addr::{Area, Cell, LAST_COL, NoMemory};
-use calc_model::{Fault, Piece, Seen, Value, Values};
+use calc_addr::{Cell, LAST_COL, NoMemory, Run};
+use calc_model::Value;
 use std::alloc::Global;
 use std::marker::Model;
 
@@ -36,7 +34,8 @@ fn place_of(sheet: u8, col: u16) -> usize
     requires sheet { sheet ≤ LAST_SHEET }
     requires from { 1 ≤ col }
     requires to { col ≤ LAST_COL }
-    ensures { result ≡ column_place sheet col }
+    ensures place { result ≡ column_place sheet col }
+    ensures small { result < 2 ^ 31 }
 {
     sheet as usize * LAST_COL as usize + (col as usize - 1)
 }
@@ -245,5 +244,111 @@ impl ValueSheets {
         } else {
             None
         }
+    }
+
+    /// Makes a cell show a value, which makes its column used.
+    pub fn set(&mut self, cell: Cell, value: Value) -> Result<(), NoMemory>
+        ensures ok { OnOk result (IsSet self.old self.new (column_place cell.sheet cell.col)
+            (slice_set (shown_in self.old (column_place cell.sheet cell.col))
+              (cell.row - 1) value)) }
+        ensures err { OnErr result (ShowsSame self.old self.new) }
+        ensures reserved { 1 ≤ spare_in self.old (column_place cell.sheet cell.col)
+            → IsOk result }
+        ensures spare { OnOk result (spare_in self.old (column_place cell.sheet cell.col)
+            ≤ spare_in self.new (column_place cell.sheet cell.col) + 1) }
+    {
+        let alloc = self.alloc;
+        let place = place_of(cell.sheet, cell.col);
+        set_row(alloc, &mut self.columns, place, cell.row, value)
+    }
+
+    /// Makes the cells of a run show values, which makes their column used.
+    pub fn set_run(&mut self, run: Run, values: Vec<Value>) -> Result<(), NoMemory>
+        requires { vec_len values ≡ run.last + 1 - run.first }
+        ensures ok { OnOk result (IsSet self.old self.new (column_place run.sheet run.col)
+            (run_set (run.first - 1) values.items
+              (shown_in self.old (column_place run.sheet run.col)))) }
+        ensures err { OnErr result (ShowsSame self.old self.new) }
+    {
+        let alloc = self.alloc;
+        let place = place_of(run.sheet, run.col);
+        set_run_rows(alloc, &mut self.columns, place, run.first, values)
+    }
+
+    /// Makes the cells of a run show the numbers of these raw numbers, which makes their column
+    /// used.
+    pub fn set_small(&mut self, run: Run, items: &[i64]) -> Result<(), NoMemory>
+        requires { length items.now ≡ run.last + 1 - run.first }
+        ensures ok { OnOk result (IsSet self.old self.new (column_place run.sheet run.col)
+            (run_set (run.first - 1) (map value.Number items.now)
+              (shown_in self.old (column_place run.sheet run.col)))) }
+        ensures err { OnErr result (ShowsSame self.old self.new) }
+    {
+        let alloc = self.alloc;
+        let place = place_of(run.sheet, run.col);
+        set_small_rows(alloc, &mut self.columns, place, run.first, items)
+    }
+
+    /// Makes the cells of a run blank.
+    pub fn clear(&mut self, run: Run) -> Result<(), NoMemory>
+        ensures ok { OnOk result (IsEdited self.old self.new (column_place run.sheet run.col)
+            (λ s. rows_set (run.first - 1) (run.last + 1 - run.first) value.Blank s)) }
+        ensures err { OnErr result (ShowsSame self.old self.new) }
+        ensures reserved { 1 ≤ spare_in self.old (column_place run.sheet run.col)
+            → IsOk result }
+        ensures spare { OnOk result (spare_in self.old (column_place run.sheet run.col)
+            ≤ spare_in self.new (column_place run.sheet run.col) + 1) }
+    {
+        let place = place_of(run.sheet, run.col);
+        clear_rows(&mut self.columns, place, run.first, run.last)
+    }
+
+    /// Puts blank rows in a column.
+    pub fn insert_empty(
+        &mut self,
+        sheet: u8,
+        col: u16,
+        place: u32,
+        count: u32,
+    ) -> Result<(), NoMemory>
+        requires column { IsColumn sheet col }
+        requires rows { IsRowEdit place count }
+        ensures ok { OnOk result (IsEdited self.old self.new (column_place sheet col)
+            (λ s. rows_inserted (place - 1) count value.Blank s)) }
+        ensures err { OnErr result (ShowsSame self.old self.new) }
+    {
+        let column = place_of(sheet, col);
+        insert_rows(&mut self.columns, column, place, count)
+    }
+
+    /// Takes rows out of a column.
+    pub fn erase(
+        &mut self,
+        sheet: u8,
+        col: u16,
+        place: u32,
+        count: u32,
+    ) -> Result<(), NoMemory>
+        requires column { IsColumn sheet col }
+        requires rows { IsRowEdit place count }
+        ensures ok { OnOk result (IsEdited self.old self.new (column_place sheet col)
+            (λ s. rows_erased (place - 1) count value.Blank s)) }
+        ensures err { OnErr result (ShowsSame self.old self.new) }
+    {
+        let column = place_of(sheet, col);
+        erase_rows(&mut self.columns, column, place, count)
+    }
+
+    /// Makes room for the setting or clearing of n cells of a column, which makes it used.
+    pub fn reserve(&mut self, sheet: u8, col: u16, n: usize) -> Result<(), NoMemory>
+        requires { IsColumn sheet col }
+        ensures room { OnOk result (n ≤ spare_in self.new (column_place sheet col)) }
+        ensures ok { OnOk result (IsSet self.old self.new (column_place sheet col)
+            (shown_in self.old (column_place sheet col))) }
+        ensures err { OnErr result (ShowsSame self.old self.new) }
+    {
+        let alloc = self.alloc;
+        let place = place_of(sheet, col);
+        reserve_rows(alloc, &mut self.columns, place, n)
     }
 }
