@@ -1,7 +1,7 @@
 -- Rows of a lane that are made plain.
-use Rattle.std.proofs.Common.{◌≡◌, ℕ, ◌+◌, ◌-◌, ◌<◌, ◌≤◌, ◌&&◌, true, false, nat_lt, nat_le, List, ◌++◌, take, drop, length, replicate, get_or, cond, min, refl, sym, ap, ◌∙◌, inl, inr, ◌⊎◌, arith}
+use Rattle.std.proofs.Common.{◌≡◌, ℕ, ◌+◌, ◌-◌, ◌<◌, ◌≤◌, ◌&&◌, nat_lt, nat_le, List, ◌++◌, take, drop, length, replicate, get_or, cond, min, sym, ap, ◌∙◌, inl, inr, ◌⊎◌, arith}
 use Rattle.std.proofs.lemmas.Bool.{cond-true, cond-false, lt-ltb, le-leb, lt-leb, le-ltb, cases_lt, and_from, and_left, and_right}
-use Rattle.std.proofs.lemmas.List.{get_or_append_left, get_or-append_right, get_or-take, get_or-drop, get_or-replicate, get_or_past, length-take-le, length-append, length-replicate, length-drop}
+use Rattle.std.proofs.lemmas.List.{get_or_append_left, get_or-append_right, get_or-take, get_or-drop, get_or-replicate, get_or_past, length-take-le, length-replicate}
 
 pub plain-rows : {T : Type 0} (xs : List T) (d : T) (a b e r : ℕ) → e ≡ min b (length xs) → a < e → get_or (take a xs ++ (replicate (e - a) d ++ drop e xs)) r d ≡ cond (nat_le a r && nat_lt r b) d (get_or xs r d)
 plain-rows {T} xs d a b e r end order = at (cases_lt r a) (cases_lt r e) (cases_lt r b)

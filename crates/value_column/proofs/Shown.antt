@@ -1,5 +1,5 @@
 -- What cells show, by their columns.
-use Rattle.std.proofs.Common.{◌≡◌, ℕ, ◌+◌, ◌-◌, ◌<◌, ◌≤◌, List, map, take, length, get_or, Option, Some, None, refl, sym, ap, ◌∙◌, arith}
+use Rattle.std.proofs.Common.{◌≡◌, ℕ, ◌+◌, ◌-◌, ◌<◌, ◌≤◌, List, map, take, length, get_or, Option, refl, sym, ap, ◌∙◌, arith}
 use Rattle.std.specs.List.{range_with_len}
 use Rattle.std.proofs.lemmas.List.{same_lists, get_or_default, get_or-take, get_or-map, length-take-le, length-map}
 use Rattle.std.proofs.lemmas.List.FromFn.{length-map-range_with_len, get_or-map-range_with_len}
@@ -15,7 +15,6 @@ use Rattle.value_column.specs.ValueRows.{ValueRows}
 pub cell-is : (sheets : List (Option ValueRows)) (cell : Place) (o : Option ValueRows) → o ≡ column_in sheets cell.sheet cell.col → cell_values sheets cell ≡ row_value o cell.row
 unfolding cell_values
 cell-is sheets cell o e = ap (λ v. row_value v cell.row) (sym e)
-
 
 column-length : (values : CellValues) (rows : Rows) → length (column_values values rows) ≡ rows.last + 1 - rows.first
 unfolding column_values

@@ -1,13 +1,13 @@
 -- A column as the list of what a function gives for its rows.
-use Rattle.std.proofs.Common.{◌≡◌, ◌≢◌, ℕ, zero, suc, ◌+◌, ◌-◌, ◌<◌, ◌≤◌, List, [], ◌∷◌, ◌++◌, map, take, drop, length, replicate, get_or, cond, min, nat_lt, nat_le, ◌&&◌, slice_get, Some, refl, sym, ap, subst, ◌∙◌, inl, inr, ◌⊎◌, arith}
+use Rattle.std.proofs.Common.{◌≡◌, ◌≢◌, ℕ, ◌+◌, ◌-◌, ◌<◌, ◌≤◌, List, ◌++◌, map, take, drop, length, replicate, get_or, cond, nat_lt, nat_le, ◌&&◌, slice_get, Some, sym, ap, ◌∙◌, inl, inr, ◌⊎◌, arith}
 use Rattle.std.proofs.Math.ListN.{set}
 use Rattle.std.specs.List.{range_with_len}
 use Rattle.std.proofs.lemmas.Bool.{cond-true, cond-false, lt-ltb, le-leb, lt-leb, le-ltb, cases_lt, cases_eq, and_from, and_left, and_right}
-use Rattle.std.proofs.lemmas.List.{get_or_append_left, get_or-append_right, get_or-take, get_or-drop, get_or-replicate, get_or_past, length-take-le, length-append, length-replicate, length-drop, length-set, get_or-set_same, get_or-set_other}
+use Rattle.std.proofs.lemmas.List.{get_or_append_left, get_or-append_right, get_or-take, get_or-drop, get_or-replicate, length-take-le, length-append, length-replicate, length-drop, length-set, get_or-set_same, get_or-set_other}
 use Rattle.std.proofs.lemmas.List.FromFn.{fill_by_all, length-map-range_with_len, get_or-map-range_with_len}
 use Rattle.std.proofs.lemmas.Option.{slice_get-get_or}
 use Rattle.run_tables.specs.Rows.{spliced, rows_set, rows_inserted, rows_erased}
-use Rattle.run_tables.proofs.RowEdits.{length-rows_set, length-rows_inserted, length-rows_erased, length-spliced}
+use Rattle.run_tables.proofs.RowEdits.{length-rows_set, length-rows_inserted, length-rows_erased}
 use Rattle.value_column.specs.Lanes.{opened, closed}
 use Rattle.value_column.proofs.Cleared.{plain-rows}
 use Rattle.value_column.proofs.Opened.{in_front, put_in, behind}

@@ -1,5 +1,5 @@
 -- Columns that show what they did.
-use Rattle.std.proofs.Common.{◌≡◌, ℕ, List, get_or, Option, None, Result, Ok, Err, OnErr, option_map, sym, ap, ◌∙◌}
+use Rattle.std.proofs.Common.{◌≡◌, ℕ, List, get_or, Option, None, Result, Ok, Err, OnErr, option_map, ap, ◌∙◌}
 use Rattle.std.proofs.Math.ListN.{set}
 use Rattle.std.proofs.lemmas.List.{set-get_or}
 use Rattle.value_column.specs.Sheets.{ShowsSame, shown_at}

@@ -1,5 +1,5 @@
 -- What the rows of a column show, by their tags and items. The first row's number is 0.
-use Rattle.std.specs.Prelude.{◌≡◌, ℕ, ℤ, pos, negsuc, int_le, ◌+◌, ◌^◌, ◌-◌, Bool, ◌≤◌, ◌<◌, ◌&&◌, nat_le, nat_lt, if◌then◌else◌, List, [], map, slice_index_or, vec_len}
+use Rattle.std.specs.Prelude.{ℕ, ℤ, pos, negsuc, int_le, ◌+◌, ◌^◌, ◌-◌, Bool, ◌≤◌, ◌<◌, ◌&&◌, nat_le, nat_lt, if◌then◌else◌, List, [], map, slice_index_or, vec_len}
 use Rattle.std.specs.List.{range_with_len}
 use Rattle.std.specs.Vec.{vec_capacity}
 use Rattle.calc_num.specs.Decimals.{IsRaw}

@@ -86,11 +86,7 @@ pub(crate) fn make_room<T>(lane: &mut Vec<T>) -> Result<(), NoMemory>
 }
 
 /// Makes a lane at least so long.
-pub(crate) fn grow<T: Plain>(
-    alloc: Global,
-    lane: &mut Vec<T>,
-    len: usize,
-) -> Result<(), NoMemory>
+pub(crate) fn grow<T: Plain>(alloc: Global, lane: &mut Vec<T>, len: usize) -> Result<(), NoMemory>
     ensures same { Same T.plain lane.old.items lane.new.items }
     ensures ok { OnOk result (len ≤ vec_len lane.new) }
     ensures longer { vec_len lane.old ≤ vec_len lane.new }
@@ -109,11 +105,7 @@ pub(crate) fn grow<T: Plain>(
 }
 
 /// Room for rows that are put in.
-pub(crate) fn room_to_open<T>(
-    lane: &mut Vec<T>,
-    from: usize,
-    count: usize,
-) -> Result<(), NoMemory>
+pub(crate) fn room_to_open<T>(lane: &mut Vec<T>, from: usize, count: usize) -> Result<(), NoMemory>
     requires { from + count ≤ LAST_ROW }
     ensures items { lane.new.items ≡ lane.old.items }
     ensures len { vec_len lane.new ≡ vec_len lane.old }

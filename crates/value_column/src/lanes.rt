@@ -228,12 +228,7 @@ impl Lanes {
     }
 
     /// Puts in blank rows, and drops those past the last row of a sheet.
-    pub(crate) fn open(
-        &mut self,
-        alloc: Global,
-        from: usize,
-        count: usize,
-    ) -> Result<(), NoMemory>
+    pub(crate) fn open(&mut self, alloc: Global, from: usize, count: usize) -> Result<(), NoMemory>
         requires lanes { AreLanes self.old }
         requires within { from + count ≤ LAST_ROW }
         ensures lanes { AreLanes self.new }

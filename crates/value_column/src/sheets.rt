@@ -250,7 +250,7 @@ impl ValueSheets {
     pub fn set(&mut self, cell: Cell, value: Value) -> Result<(), NoMemory>
         ensures ok { OnOk result (IsSet self.old self.new (column_place cell.sheet cell.col)
             (slice_set (shown_in self.old (column_place cell.sheet cell.col))
-              (cell.row - 1) value)) }
+            (cell.row - 1) value)) }
         ensures err { OnErr result (ShowsSame self.old self.new) }
         ensures reserved { 1 ≤ spare_in self.old (column_place cell.sheet cell.col)
             → IsOk result }
@@ -267,7 +267,7 @@ impl ValueSheets {
         requires { vec_len values ≡ run.last + 1 - run.first }
         ensures ok { OnOk result (IsSet self.old self.new (column_place run.sheet run.col)
             (run_set (run.first - 1) values.items
-              (shown_in self.old (column_place run.sheet run.col)))) }
+            (shown_in self.old (column_place run.sheet run.col)))) }
         ensures err { OnErr result (ShowsSame self.old self.new) }
     {
         let alloc = self.alloc;
@@ -281,7 +281,7 @@ impl ValueSheets {
         requires { length items.now ≡ run.last + 1 - run.first }
         ensures ok { OnOk result (IsSet self.old self.new (column_place run.sheet run.col)
             (run_set (run.first - 1) (map value.Number items.now)
-              (shown_in self.old (column_place run.sheet run.col)))) }
+            (shown_in self.old (column_place run.sheet run.col)))) }
         ensures err { OnErr result (ShowsSame self.old self.new) }
     {
         let alloc = self.alloc;
@@ -322,13 +322,7 @@ impl ValueSheets {
     }
 
     /// Takes rows out of a column.
-    pub fn erase(
-        &mut self,
-        sheet: u8,
-        col: u16,
-        place: u32,
-        count: u32,
-    ) -> Result<(), NoMemory>
+    pub fn erase(&mut self, sheet: u8, col: u16, place: u32, count: u32) -> Result<(), NoMemory>
         requires column { IsColumn sheet col }
         requires rows { IsRowEdit place count }
         ensures ok { OnOk result (IsEdited self.old self.new (column_place sheet col)

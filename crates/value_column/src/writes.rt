@@ -41,7 +41,7 @@ impl Lanes {
         ensures lanes { AreLanes self.new }
         ensures ok { OnOk result ((r : ℕ) → value_at self.new r
             ≡ written from (length items.now)
-              (λ k. value.Number (slice_index_or items.now k (pos 0))) (value_at self.old) r) }
+            (λ k. value.Number (slice_index_or items.now k (pos 0))) (value_at self.old) r) }
         ensures err { OnErr result ((r : ℕ) → value_at self.new r ≡ value_at self.old r) }
     {
         if items.is_empty() {
@@ -54,12 +54,7 @@ impl Lanes {
     }
 
     /// Makes the lanes reach neighbouring rows that are to show values.
-    fn ready_run(
-        &mut self,
-        alloc: Global,
-        from: usize,
-        values: &[Value],
-    ) -> Result<(), NoMemory>
+    fn ready_run(&mut self, alloc: Global, from: usize, values: &[Value]) -> Result<(), NoMemory>
         requires lanes { AreLanes self.old }
         requires within { from + length values.now ≤ LAST_ROW }
         ensures lanes { AreLanes self.new }
@@ -86,7 +81,7 @@ impl Lanes {
         ensures lanes { AreLanes self.new }
         ensures ok { OnOk result ((r : ℕ) → value_at self.new r
             ≡ written from (vec_len values)
-              (λ k. slice_index_or values.items k value.Blank) (value_at self.old) r) }
+            (λ k. slice_index_or values.items k value.Blank) (value_at self.old) r) }
         ensures err { OnErr result ((r : ℕ) → value_at self.new r ≡ value_at self.old r) }
     {
         self.ready_run(alloc, from, values.as_slice())?;

@@ -1,4 +1,4 @@
-use Rattle.std.proofs.Common.{◌≡◌, get_or, ap, ◌∙◌, min, length, arith}
+use Rattle.std.proofs.Common.{get_or, ap, ◌∙◌, arith}
 use Rattle.value_column.specs.declared.lane.Tag.TheVariants as tag
 use Rattle.value_column.proofs.Cleared.{plain-rows}
 use Rattle.value_column.proofs.lanes.clear_tags.Goals as goal

@@ -1,11 +1,8 @@
-use Rattle.std.proofs.Common.{◌≡◌, ◌+◌, ◌-◌, ◌≤◌, Some, sym, ap, subst, ◌∙◌, arith, map, pos, get_or, slice_get, take, drop, length, ◌++◌}
-use Rattle.std.proofs.Math.ListN.{set}
-use Rattle.std.proofs.lemmas.Result.{on_ok_weaker, on_err_weaker}
+use Rattle.std.proofs.Common.{◌≡◌, ◌+◌, ◌-◌, ap, ◌∙◌, arith}
 use Rattle.calc_addr.specs.declared.cell.TheConstants.{LAST_ROW}
 use Rattle.calc_model.specs.declared.value.Value.TheVariants as value
-use Rattle.run_tables.specs.Rows.{rows_set, rows_inserted, rows_erased}
+use Rattle.run_tables.specs.Rows.{rows_set}
 use Rattle.value_column.specs.Rows.{column_of, value_at}
-use Rattle.value_column.specs.ValueRows.{run_set}
 use Rattle.value_column.proofs.Tabs.{tab-cleared}
 use Rattle.value_column.proofs.column.ValueColumn.clear.Goals as goal
 

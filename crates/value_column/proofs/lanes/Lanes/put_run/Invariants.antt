@@ -1,4 +1,4 @@
-use Rattle.std.proofs.Common.{◌≡◌, ℕ, ◌+◌, ◌≤◌, take, get_or, vec_len}
+use Rattle.std.proofs.Common.{◌≡◌, ◌≤◌, take, get_or, vec_len}
 use Rattle.calc_model.specs.declared.value.Value.TheVariants as value
 use Rattle.value_column.specs.Rows.{AreLanes, AreReady, value_at}
 use Rattle.value_column.proofs.Written.{IsBelow}

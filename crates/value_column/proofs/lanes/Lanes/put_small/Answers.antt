@@ -1,4 +1,4 @@
-use Rattle.std.proofs.Common.{pos, ◌+◌, ◌-◌, length, get_or, replicate, take, drop, ◌++◌, ap, ◌∙◌, refl, arith}
+use Rattle.std.proofs.Common.{pos, ◌+◌, length, get_or, ◌∙◌, refl, arith}
 use Rattle.calc_model.specs.declared.value.Value.TheVariants as value
 use Rattle.value_column.specs.Rows.{value_at}
 use Rattle.value_column.proofs.Copied.{copied}

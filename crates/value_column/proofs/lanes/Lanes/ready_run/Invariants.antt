@@ -1,4 +1,4 @@
-use Rattle.std.proofs.Common.{◌≡◌, ℕ, ◌+◌, length}
+use Rattle.std.proofs.Common.{◌≡◌, ℕ, ◌+◌}
 use Rattle.value_column.specs.Rows.{AreLanes, AreReady, value_at}
 use Rattle.value_column.proofs.lanes.Lanes.ready_run.Given as goal
 

@@ -1,4 +1,4 @@
-use Rattle.std.proofs.Common.{◌-◌, sym, ap, ◌∙◌, get_or, slice_get}
+use Rattle.std.proofs.Common.{◌-◌, sym, ap, ◌∙◌, slice_get}
 use Rattle.std.proofs.lemmas.Option.{get_or_from_slice_get}
 use Rattle.calc_addr.specs.Places.{Place}
 use Rattle.calc_model.specs.ValueTexts.{lent}

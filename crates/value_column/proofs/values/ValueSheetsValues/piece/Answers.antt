@@ -1,7 +1,6 @@
-use Rattle.std.proofs.Common.{◌≡◌, ◌+◌, ◌-◌, ◌<◌, length, replicate, get_or, sym, ap, ◌∙◌, arith}
+use Rattle.std.proofs.Common.{◌≡◌, ◌+◌, ◌-◌, length, replicate, get_or, sym, ap, ◌∙◌, arith}
 use Rattle.std.proofs.lemmas.List.{length-replicate, get_or-replicate}
-use Rattle.calc_addr.specs.Places.{Place, Rows}
-use Rattle.calc_model.specs.declared.value.Value.{Value}
+use Rattle.calc_addr.specs.Places.{Rows}
 use Rattle.calc_model.specs.declared.value.Value.TheVariants.{Blank}
 use Rattle.calc_model.specs.declared.values.Piece.TheVariants as piece
 use Rattle.value_column.specs.Sheets.{cell_values}
