@@ -27,7 +27,7 @@ mkdir -p "$work/crates/columns/src"
 for file in "$source"/program/*.rattle; do
     cp "$file" "$work/crates/columns/src/$(basename "$file" .rattle).rt"
 done
-printf 'columns: block_column value_column calc_model calc_addr calc_num\n' >>"$work/crates.txt"
+printf 'columns: run_tables block_column value_column calc_model calc_addr calc_num\n' >>"$work/crates.txt"
 (cd "$work/crates/columns" && rt run --jobs 1 >/dev/null 2>"$work/log") || {
     cat "$work/log" >&2
     exit 1
