@@ -3,3 +3,4 @@ pub mod Lanes
 pub mod Rows
 pub mod ValueRows
 pub mod Sheets
+pub mod Spans

@@ -3,11 +3,13 @@ ghost use Rattle.run_tables.specs.Rows.{AreRows, IsRowEdit, rows_erased, rows_in
 ghost use Rattle.calc_model.specs.UsedCells.{values_of};
 ghost use Rattle.calc_model.specs.ValueTexts.{lent};
 ghost use Rattle.calc_model.specs.declared.value.Value.TheVariants as value;
+ghost use Rattle.value_column.specs.Spans.{span_first, span_values};
 ghost use Rattle.value_column.specs.ValueRows.{IsRun, no_values, run_set};
 
 use crate::item::Item;
 use crate::lane::Tag;
 use crate::lanes::Lanes;
+use crate::span::ValueSpan;
 use calc_addr::NoMemory;
 use calc_model::{Piece, Seen, Value};
 use std::alloc::Global;
@@ -22,7 +24,8 @@ pub struct ValueColumn {
 }
 
 impl Model for ValueColumn {
-    ghost use Rattle.value_column.specs.ValueRows.{ValueRows};
+    ghost use Rattle.value_column.specs.Spans.{span_first, span_values};
+ghost use Rattle.value_column.specs.ValueRows.{ValueRows};
 
     ghost Value = { ValueRows };
 
@@ -145,5 +148,18 @@ impl ValueColumn {
             ≡ slice_index_or self.now.values (first - 1 + k) value.Blank }
     {
         self.lanes.piece(first as usize - 1, last as usize)
+    }
+
+    /// The first span of some rows, which lends its list. Who walks them goes on behind it.
+    pub fn span(&self, first: u32, last: u32) -> ValueSpan<'_>
+        requires { AreRows first last }
+        ensures first { span_first result ≡ first }
+        ensures some { 1 ≤ length (span_values result) }
+        ensures within { first + length (span_values result) ≤ last + 1 }
+        ensures rows { (k : ℕ) → k < length (span_values result)
+            → slice_index_or (span_values result) k value.Blank
+            ≡ slice_index_or self.now.values (first - 1 + k) value.Blank }
+    {
+        self.lanes.span(first as usize - 1, last as usize)
     }
 }

@@ -6,11 +6,13 @@ ghost use Rattle.calc_model.specs.declared.value.Value.TheVariants as value;
 ghost use Rattle.std.specs.Vec.{vec_capacity};
 ghost use Rattle.value_column.specs.declared.lane.Tag.TheVariants as tag;
 ghost use Rattle.value_column.specs.Lanes.{closed, opened};
+ghost use Rattle.value_column.specs.Spans.{span_first, span_values};
 ghost use Rattle.value_column.specs.Rows.{AreLanes, HasRoom, IsItem, IsLonger, IsReady, cleared, item_value, tag_of, untagged, value_at};
 
 use crate::item::Item;
 use crate::lane::{Tag, close_rows, grow, make_room, open_rows, room_to_open};
 use crate::numbers::{number, small_number};
+use crate::span::ValueSpan;
 use calc_addr::NoMemory;
 use calc_model::{Fault, Piece, Seen, Text};
 use std::alloc::Global;
@@ -149,6 +151,43 @@ impl Lanes {
             Tag::Wide => Piece::One(self.look(first)),
             Tag::Words => Piece::One(self.look(first)),
             Tag::Bad => Piece::One(self.look(first)),
+        }
+    }
+
+    /// The rows behind the first that have its tag, from there on, as a span.
+    pub(crate) fn span(&self, first: usize, end: usize) -> ValueSpan<'_>
+        requires lanes { AreLanes self.now }
+        requires some { first < end }
+        requires within { end ≤ LAST_ROW }
+        ensures first { span_first result ≡ first + 1 }
+        ensures some { 1 ≤ length (span_values result) }
+        ensures within { first + length (span_values result) ≤ end }
+        ensures rows { (k : ℕ) → k < length (span_values result)
+            → slice_index_or (span_values result) k value.Blank ≡ value_at self.now (first + k) }
+    {
+        let to = self.run_end(first, end);
+        let row = first as u32 + 1;
+        match self.tag(first) {
+            Tag::Blank => ValueSpan::Blank {
+                first: row,
+                count: (to - first) as u32,
+            },
+            Tag::Small => ValueSpan::Small {
+                first: row,
+                items: &self.small[first..to],
+            },
+            Tag::Wide => ValueSpan::Wide {
+                first: row,
+                items: &self.wide[first..to],
+            },
+            Tag::Words => ValueSpan::Words {
+                first: row,
+                items: &self.words[first..to],
+            },
+            Tag::Bad => ValueSpan::Faults {
+                first: row,
+                items: &self.bad[first..to],
+            },
         }
     }
 

@@ -7,8 +7,10 @@ mod lane;
 mod lanes;
 mod numbers;
 mod sheets;
+mod span;
 mod values;
 mod writes;
 
 pub use column::ValueColumn;
 pub use sheets::ValueSheets;
+pub use span::ValueSpan;
