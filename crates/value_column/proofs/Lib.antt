@@ -1,5 +1,6 @@
 -- Cleared: rows of a lane that are made plain.
 -- Copied: rows that show copied numbers.
+-- LeftRows: the rows that are left behind a span.
 -- Opened: lanes with rows put in.
 -- Shown: what cells show, by their columns.
 -- Spare: room for all rows.
@@ -8,6 +9,7 @@
 -- Written: one more row written.
 pub mod Cleared
 pub mod Copied
+pub mod LeftRows
 pub mod Opened
 pub mod Shown
 pub mod Spare

@@ -1,4 +1,4 @@
-ghost use Rattle.std.specs.Prelude.{◌≡◌, ◌≤◌, ◌<◌, ℕ, ◌+◌, ◌-◌, length, map, pos, Some, IfOk, OnOk, OnErr, IsOk, slice_get, slice_index_or, slice_set, vec_len};
+ghost use Rattle.std.specs.Prelude.{◌≡◌, ◌≤◌, ◌<◌, ℕ, ◌+◌, ◌-◌, length, map, pos, take, drop, Some, IfOk, OnOk, OnErr, IsOk, slice_get, slice_index_or, slice_set, vec_len};
 ghost use Rattle.run_tables.specs.Rows.{AreRows, IsRowEdit, rows_erased, rows_inserted, rows_set};
 ghost use Rattle.calc_model.specs.UsedCells.{values_of};
 ghost use Rattle.calc_model.specs.ValueTexts.{lent};
@@ -10,6 +10,7 @@ use crate::item::Item;
 use crate::lane::Tag;
 use crate::lanes::Lanes;
 use crate::span::ValueSpan;
+use crate::spans::Spans;
 use calc_addr::NoMemory;
 use calc_model::{Piece, Seen, Value};
 use std::alloc::Global;
@@ -161,5 +162,15 @@ impl ValueColumn {
             ≡ slice_index_or self.now.values (first - 1 + k) value.Blank }
     {
         self.lanes.span(first as usize - 1, last as usize)
+    }
+
+    /// The spans of some rows, downwards. Each is as long as its kind goes on.
+    pub fn spans(&self, first: u32, last: u32) -> Spans<'_>
+        requires { AreRows first last }
+        ensures first { result.first ≡ first }
+        ensures values { result.values
+            ≡ take (last + 1 - first) (drop (first - 1) self.entry.now.values) }
+    {
+        Spans::of(&self.lanes, first as usize - 1, last as usize)
     }
 }

@@ -8,9 +8,11 @@ mod lanes;
 mod numbers;
 mod sheets;
 mod span;
+mod spans;
 mod values;
 mod writes;
 
 pub use column::ValueColumn;
 pub use sheets::ValueSheets;
 pub use span::ValueSpan;
+pub use spans::Spans;
