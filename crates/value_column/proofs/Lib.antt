@@ -1,4 +1,5 @@
 -- Cleared: rows of a lane that are made plain.
+-- Columns: cells of an area by their columns.
 -- Copied: rows that show copied numbers.
 -- LeftRows: the rows that are left behind a span.
 -- Opened: lanes with rows put in.
@@ -8,6 +9,7 @@
 -- Unmoved: columns that show what they did.
 -- Written: one more row written.
 pub mod Cleared
+pub mod Columns
 pub mod Copied
 pub mod LeftRows
 pub mod Opened

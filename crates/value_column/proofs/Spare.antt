@@ -1,5 +1,5 @@
 -- Room for all rows, and rows past the last.
-use Rattle.std.proofs.Common.{◌≡◌, ℕ, pos, ◌<◌, ◌≤◌, ◌^◌, [], get_or, Result, Ok, Err, OnOk, ap, arith}
+use Rattle.std.proofs.Common.{◌≡◌, ℕ, pos, ◌<◌, ◌≤◌, ◌^◌, [], get_or, vec_len, Result, Ok, Err, OnOk, ap, arith}
 use Rattle.std.specs.Vec.{vec_capacity}
 use Rattle.std.proofs.lemmas.Bool.{cond-true, and_from, le-leb}
 use Rattle.std.proofs.lemmas.List.{get_or_past}
@@ -23,3 +23,6 @@ past-end t r h past = ap (λ g. value_in g (get_or t.small.items r (pos 0)) (get
 pub on-both : {A E P Q R : Type 0} (r : Result A E) → OnOk r P → OnOk r Q → (P → Q → R) → OnOk r R
 on-both (Ok x) p q f = f p q
 on-both (Err e) p q f = tt
+
+pub past-reach : (t : Lanes) (r : ℕ) → vec_len t.tags ≤ r → value_at t r ≡ value.Blank
+past-reach t r past = ap (λ g. value_in g (get_or t.small.items r (pos 0)) (get_or t.wide.items r (pos 0)) (get_or t.words.items r []) (get_or t.bad.items r NA)) (get_or_past t.tags.items r tag.Blank (omega (arith, t.tags.ok)))

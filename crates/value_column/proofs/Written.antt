@@ -14,17 +14,6 @@ pub written-out : (a n r : ℕ) (vs f : ℕ → Value) → (r < a) ⊎ (a + n �
 written-out a n r vs f (inl h) = cond-false (nat_le a r && nat_lt r (a + n)) (vs (r - a)) (f r) (and_left (nat_le a r) (nat_lt r (a + n)) (lt-leb a r h))
 written-out a n r vs f (inr h) = cond-false (nat_le a r && nat_lt r (a + n)) (vs (r - a)) (f r) (and_right (nat_le a r) (nat_lt r (a + n)) (le-ltb r (a + n) h))
 
-pub written-more : (a i row : ℕ) (vs f h g : ℕ → Value) → row ≡ a + i → ((r : ℕ) → h r ≡ written a i vs f r) → g row ≡ vs i → ((r : ℕ) → r ≢ row → g r ≡ h r) → (r : ℕ) → g r ≡ written a (i + 1) vs f r
-written-more a i row vs f h g is before at other r = here (cases_eq r row) (cases_lt r a) (cases_lt r (a + i))
-  where
-    here : (r ≡ row) ⊎ (r ≢ row) → (r < a) ⊎ (a ≤ r) → (r < a + i) ⊎ (a + i ≤ r) → g r ≡ written a (i + 1) vs f r
-    here (inl e) l m =
-        let place : i ≡ r - a = omega arith in
-        ap g e ∙ at ∙ ap vs place ∙ sym (written-in a (i + 1) r vs f (omega arith) (omega arith))
-    here (inr e) (inl l) m = other r e ∙ before r ∙ written-out a i r vs f (inl l) ∙ sym (written-out a (i + 1) r vs f (inl l))
-    here (inr e) (inr l) (inl m) = other r e ∙ before r ∙ written-in a i r vs f l m ∙ sym (written-in a (i + 1) r vs f l (omega arith))
-    here (inr e) (inr l) (inr m) = other r e ∙ before r ∙ written-out a i r vs f (inr m) ∙ sym (written-out a (i + 1) r vs f (inr (omega arith)))
-
 -- of n rows to be written, those from the i-th on are
 abbrev pub IsBelow : ℕ → ℕ → ℕ → (ℕ → Value) → (ℕ → Value) → (ℕ → Value) → Type 0
 IsBelow a i n vs f g = (r : ℕ) → g r ≡ written (a + i) (n - i) (λ k. vs (i + k)) f r

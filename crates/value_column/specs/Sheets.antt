@@ -1,7 +1,9 @@
 -- Columns of all sheets, by their places among them.
-use Rattle.std.specs.Prelude.{◌≡◌, ◌≢◌, ℕ, ◌+◌, ◌-◌, ◌*◌, ◌≤◌, List, Option, None, Some, slice_index_or}
+use Rattle.std.specs.Prelude.{◌≡◌, ◌≢◌, ◌&&◌, Bool, ℕ, ◌+◌, ◌-◌, ◌*◌, ◌≤◌, List, Option, None, Some, slice_index_or}
 use Rattle.std.specs.Option.{option_map, unwrap_or}
 use Rattle.calc_addr.specs.declared.cell.TheConstants.{LAST_COL, LAST_SHEET}
+use Rattle.calc_addr.specs.Places.{Place}
+use Rattle.calc_model.specs.UsedCells.{is_past, is_used}
 use Rattle.calc_model.specs.Scalars.{CellValues}
 use Rattle.calc_model.specs.declared.value.Value.{Value}
 use Rattle.calc_model.specs.declared.value.Value.TheVariants.{Blank}
@@ -53,3 +55,7 @@ pub record IsEdited (old new : List (Option ValueRows)) (place : ℕ) (edit : Li
 -- each column shows what it did, and is used where it was
 abbrev pub ShowsSame : List (Option ValueRows) → List (Option ValueRows) → Type 0
 ShowsSame old new = (p : ℕ) → shown_at new p ≡ shown_at old p
+
+-- the cell shows something and comes behind that one, if there is one
+abbrev pub is_sought : CellValues → Option Place → Place → Bool
+is_sought values after q = is_used (values q) && is_past after q

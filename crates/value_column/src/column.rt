@@ -26,7 +26,7 @@ pub struct ValueColumn {
 
 impl Model for ValueColumn {
     ghost use Rattle.value_column.specs.Spans.{span_first, span_values};
-ghost use Rattle.value_column.specs.ValueRows.{ValueRows};
+    ghost use Rattle.value_column.specs.ValueRows.{ValueRows};
 
     ghost Value = { ValueRows };
 
@@ -172,5 +172,13 @@ impl ValueColumn {
             ≡ take (last + 1 - first) (drop (first - 1) self.entry.now.values) }
     {
         Spans::of(&self.lanes, first as usize - 1, last as usize)
+    }
+
+    /// A row behind which each is blank.
+    pub(crate) fn reach(&self) -> u32
+        ensures { (r : ℕ) → result ≤ r
+            → slice_index_or self.now.values r value.Blank ≡ value.Blank }
+    {
+        self.lanes.tags.len() as u32
     }
 }

@@ -1,4 +1,4 @@
-use Rattle.std.proofs.Common.{◌≡◌, ◌+◌, ◌-◌, take, drop, sym, ap, ◌∙◌, arith}
+use Rattle.std.proofs.Common.{◌≡◌, ◌+◌, ◌-◌, take, drop, ap, ◌∙◌, arith}
 use Rattle.value_column.specs.Rows.{column_of}
 use Rattle.value_column.proofs.LeftRows.{left-of}
 use Rattle.value_column.proofs.column.ValueColumn.spans.Goals as goal

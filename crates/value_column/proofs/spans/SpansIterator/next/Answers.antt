@@ -1,4 +1,4 @@
-use Rattle.std.proofs.Common.{◌≡◌, ◌+◌, ◌-◌, ◌++◌, sym, ap, subst, ◌∙◌, arith}
+use Rattle.std.proofs.Common.{◌+◌, ◌-◌, ◌++◌, sym, ap, subst, ◌∙◌, arith}
 use Rattle.value_column.specs.Spans.{IsNextSpan, RowsLeft, rows_left, span_values}
 use Rattle.value_column.proofs.LeftRows.{left-behind, shorter}
 use Rattle.value_column.proofs.spans.SpansIterator.next.Goals as goal
