@@ -1,6 +1,5 @@
-use Rattle.std.proofs.Common.{◌≡◌, ◌+◌, ◌≤◌, ◌&&◌, false, slice_get, sym, ap, ◌∙◌, arith}
+use Rattle.std.proofs.Common.{◌≡◌, ◌&&◌, false, slice_get, sym, ap, ◌∙◌, arith}
 use Rattle.std.proofs.lemmas.Bool.{and_left, and_right}
-use Rattle.calc_addr.specs.Places.{column_places}
 use Rattle.calc_model.specs.UsedCells.{is_past, is_used}
 use Rattle.value_column.specs.Sheets.{cell_values, is_sought}
 use Rattle.value_column.proofs.Columns.{row_in, skip-row, no-row}
@@ -13,7 +12,7 @@ loop-row-preserved c =
     let v = cell_values c.args.self.now in
     let q = row_in c.args.sheet c.args.col l.row in
     let out : is_sought v c.args.after.now q ≡ false = elim c.else-is_used.branch [
-      else-is_used-via-then-is_used+else-is_past w ↦ and_right (is_used (v q)) (is_past c.args.after.now q) (sym w.if-is_past.ensures)
+      | else-is_used-via-then-is_used+else-is_past w ↦ and_right (is_used (v q)) (is_past c.args.after.now q) (sym w.if-is_past.ensures)
       | else-is_used-via-else-is_used w ↦ and_left (is_used (v q)) (is_past c.args.after.now q) (sym w.if-is_used.ensures)
     ] in
     l.invariant ∙ skip-row (is_sought v c.args.after.now) c.args.sheet c.args.col l.row c.args.last (omega (arith, c.loop-row-test.true, c.min-end.ensures)) out
