@@ -5,6 +5,7 @@
 -- Opened: lanes with rows put in.
 -- Shown: what cells show, by their columns.
 -- Spare: room for all rows.
+-- Starts: rows that come behind a cell.
 -- Tabs: a column as a list.
 -- Unmoved: columns that show what they did.
 -- Written: one more row written.
@@ -15,6 +16,7 @@ pub mod LeftRows
 pub mod Opened
 pub mod Shown
 pub mod Spare
+pub mod Starts
 pub mod Tabs
 pub mod Unmoved
 pub mod Written

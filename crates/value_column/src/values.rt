@@ -1,4 +1,4 @@
-ghost use Rattle.std.specs.Prelude.{◌≡◌, ◌<◌, ℕ, slice_get};
+ghost use Rattle.std.specs.Prelude.{◌≡◌, ◌<◌, ◌≤◌, ◌+◌, ℕ, false, slice_get};
 ghost use Rattle.std.specs.List.{filter, list_any};
 ghost use Rattle.calc_addr.specs.Places.{IsRows, column_places};
 ghost use Rattle.calc_model.specs.declared.value.Value.TheVariants as value;
@@ -37,7 +37,8 @@ impl ValueSheets {
             (column_places sheet col first last)) 0 }
     {
         let end = self.reach(sheet, col).min(last);
-        for row in first..end + 1 {
+        let from = first_past(sheet, col, first, last, after);
+        for row in from..end + 1 {
             let cell = Cell { sheet, col, row };
             if self.is_used(cell) && is_past(after, cell) {
                 return Some(cell);
@@ -101,6 +102,31 @@ fn is_past(after: &Option<Cell>, cell: Cell) -> bool
     match after {
         Some(after) => *after < cell,
         None => true,
+    }
+}
+
+/// The first of some rows whose cells may come behind that one, if there is one, or the row behind
+/// the last.
+fn first_past(sheet: u8, col: u16, first: u32, last: u32, after: &Option<Cell>) -> u32
+    requires { IsRows (record { sheet = sheet; col = col; first = first; last = last }) }
+    ensures from { first ≤ result }
+    ensures to { result ≤ last + 1 }
+    ensures skipped { (r : ℕ) → first ≤ r → r < result
+        → is_past after.now (record { sheet = sheet; col = col; row = r }) ≡ false }
+{
+    match after {
+        None => first,
+        Some(after) => {
+            let row = first;
+            let top = Cell { sheet, col, row };
+            if *after < top {
+                first
+            } else if after.sheet == sheet && after.col == col {
+                (after.row.min(last) + 1).max(first)
+            } else {
+                last + 1
+            }
+        }
     }
 }
 
