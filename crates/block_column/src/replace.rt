@@ -58,7 +58,10 @@ pub(crate) fn put_many<T: Drop>(store: &mut Vec<T>, low: usize, high: usize, mut
     cut_out(store, low, high);
     let count = more.len();
     if count > 0 {
+        let end = store.len();
         let _ = store.append(&mut more);
-        store[low..].rotate_right(count);
+        if low < end {
+            store[low..].rotate_right(count);
+        }
     }
 }
