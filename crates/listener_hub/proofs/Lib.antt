@@ -1,0 +1,7 @@
+pub mod Changes
+pub mod Linked
+pub mod Parts
+pub mod Places
+pub mod Standing
+pub mod Trimming
+pub mod Trims

@@ -1,0 +1,8 @@
+-- What the formula cells of a hub read.
+use Rattle.calc_model.specs.Listeners.{ReadAreas}
+use Rattle.listener_hub.specs.Known.{Known}
+use Rattle.listener_hub.specs.Slab.{areas_of}
+
+-- the areas that each formula cell reads; no other cell has a list
+abbrev pub areas_read : Known → ReadAreas
+areas_read hub = areas_of hub.registrations

@@ -1,0 +1,147 @@
+ghost use Rattle.std.specs.Prelude.{◌≡◌, ◌≤◌, false, true, None, Some, OnErr, OnOk, if◌then◌else◌};
+ghost use Rattle.std.specs.List.{All};
+ghost use Rattle.calc_addr.specs.Places.{Place};
+ghost use Rattle.ears.specs.RunAreas.{LieInSheet};
+ghost use Rattle.listener_hub.specs.Changes.{IsPut, IsSlabOf};
+ghost use Rattle.listener_hub.specs.Hubs.{areas_read};
+ghost use Rattle.listener_hub.specs.Slab.{areas_at, areas_of, is_in, steps_of};
+
+use crate::cuts::{remove_run, split_at};
+use crate::slab::{Slab, empty, put};
+use calc_addr::{Cell, NoMemory, Run};
+use calc_model::Ear;
+use std::alloc::Global;
+use std::marker::Model;
+
+/// Which formula cells there are, and which of them read a cell. Contracts see the areas that each
+/// formula cell reads, and whether the hub is spent.
+///
+/// Whole runs of formulas are registered. A hub is spent when memory was refused in the midst of a
+/// change, and forgets all then.
+#[derive(Drop)]
+pub struct Hub {
+    slab: Slab,
+    spent: bool,
+}
+
+impl Model for Hub {
+    ghost use Rattle.listener_hub.specs.Known.{Known};
+
+    ghost Value = { Known };
+
+    ghost use Rattle.listener_hub.specs.Changes.{IsSlabOf};
+
+    ghost view = { λ h. record { registrations = h.slab.registrations.items; spent = h.spent } };
+
+    ghost invariant = { λ h. IsSlabOf h.slab };
+}
+
+impl Hub {
+    /// No formula cell, which takes no memory.
+    pub fn new(alloc: Global) -> Hub
+        ensures areas { (q : Place) → areas_read result q ≡ None }
+        ensures ready { result.spent ≡ false }
+    {
+        Hub {
+            slab: empty(alloc),
+            spent: false,
+        }
+    }
+
+    /// Whether nothing may be asked of it any more.
+    pub fn is_spent(&self) -> bool
+        ensures { result ≡ self.now.spent }
+    {
+        self.spent
+    }
+
+    /// Makes it spent.
+    pub fn spend(&mut self)
+        ensures { self.new.spent ≡ true }
+    {
+        self.slab = empty(self.slab.alloc);
+        self.spent = true;
+    }
+
+    /// Adds the cells of a run, none of which is there, with the areas that they read: the ears are those
+    /// of the run's first row. Linear in the ears and in the slots of their areas, and independent of the
+    /// rows where these areas move.
+    pub fn attach(&mut self, run: Run, ears: &[Ear]) -> Result<(), NoMemory>
+        requires ready { self.old.spent ≡ false }
+        requires absent { (q : Place) → is_in run q ≡ true → areas_read self.old q ≡ None }
+        requires inside { All (LieInSheet (steps_of run)) ears.now }
+        ensures areas { OnOk result ((q : Place) → areas_read self.new q
+            ≡ (if is_in run q then Some (areas_at ears.now run.first q.row)
+            else areas_read self.old q)) }
+        ensures ready { OnOk result (self.new.spent ≡ false) }
+        ensures spent { OnErr result (self.new.spent ≡ true) }
+    {
+        match attach_in(&mut self.slab, &run, ears) {
+            Ok(()) => Ok(()),
+            Err(fault) => {
+                self.slab = empty(self.slab.alloc);
+                self.spent = true;
+                Err(fault)
+            }
+        }
+    }
+
+    /// Takes away the cells of a run that are there. Linear in the registrations that stand in its slots,
+    /// and in what is registered anew of those that are cut.
+    pub fn detach(&mut self, run: Run) -> Result<(), NoMemory>
+        requires { self.old.spent ≡ false }
+        ensures areas { OnOk result ((q : Place) → areas_read self.new q
+            ≡ (if is_in run q then None else areas_read self.old q)) }
+        ensures ready { OnOk result (self.new.spent ≡ false) }
+        ensures spent { OnErr result (self.new.spent ≡ true) }
+    {
+        match remove_run(&mut self.slab, &run) {
+            Ok(()) => Ok(()),
+            Err(fault) => {
+                self.slab = empty(self.slab.alloc);
+                self.spent = true;
+                Err(fault)
+            }
+        }
+    }
+
+    /// Cuts what is registered of the run's column in two in front of a row of the run, which changes
+    /// nothing of what cells read.
+    pub fn split(&mut self, run: Run, row: u32) -> Result<(), NoMemory>
+        requires ready { self.old.spent ≡ false }
+        requires from { run.first ≤ row }
+        requires to { row ≤ run.last }
+        ensures areas { OnOk result ((q : Place) → areas_read self.new q ≡ areas_read self.old q) }
+        ensures ready { OnOk result (self.new.spent ≡ false) }
+        ensures spent { OnErr result (self.new.spent ≡ true) }
+    {
+        let cell = Cell {
+            sheet: run.sheet,
+            col: run.col,
+            row,
+        };
+        match split_at(&mut self.slab, &cell) {
+            Ok(()) => Ok(()),
+            Err(fault) => {
+                self.slab = empty(self.slab.alloc);
+                self.spent = true;
+                Err(fault)
+            }
+        }
+    }
+}
+
+fn attach_in(slab: &mut Slab, run: &Run, ears: &[Ear]) -> Result<(), NoMemory>
+    requires slab { IsSlabOf slab.old }
+    requires absent { (q : Place) → is_in run.now q ≡ true
+        → areas_of slab.old.registrations.items q ≡ None }
+    requires inside { All (LieInSheet (steps_of run.now)) ears.now }
+    ensures slab { OnOk result (IsSlabOf slab.new) }
+    ensures areas { OnOk result ((q : Place) → areas_of slab.new.registrations.items q
+        ≡ (if is_in run.now q then Some (areas_at ears.now run.now.first q.row)
+        else areas_of slab.old.registrations.items q)) }
+{
+    let ears = Vec::from_slice(slab.alloc, ears)?;
+    put(slab, run, ears)?;
+    Ok(())
+}

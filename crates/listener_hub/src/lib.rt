@@ -1,0 +1,10 @@
+//! Which formulas read a cell: runs of formulas with what their rows read, and listeners to it.
+#![tactic(auto)]
+
+mod cuts;
+mod hub;
+mod listening;
+mod registration;
+mod slab;
+
+pub use hub::Hub;
