@@ -1,4 +1,5 @@
 pub mod Changes
+pub mod Exact
 pub mod Linked
 pub mod Parts
 pub mod Places

@@ -1,14 +1,16 @@
-ghost use Rattle.std.specs.Prelude.{◌≡◌, ◌≤◌, false, true, None, Some, OnErr, OnOk, if◌then◌else◌};
+ghost use Rattle.std.specs.Prelude.{◌≡◌, ◌≤◌, ◌++◌, false, true, None, Some, OnErr, OnOk, if◌then◌else◌};
 ghost use Rattle.std.specs.List.{All};
-ghost use Rattle.calc_addr.specs.Places.{Place};
+ghost use Rattle.calc_addr.specs.Places.{Place, single};
+ghost use Rattle.calc_model.specs.Listeners.{AreReaders, Gets, listed};
 ghost use Rattle.ears.specs.RunAreas.{LieInSheet};
 ghost use Rattle.listener_hub.specs.Changes.{IsPut, IsSlabOf};
 ghost use Rattle.listener_hub.specs.Hubs.{areas_read};
 ghost use Rattle.listener_hub.specs.Slab.{areas_at, areas_of, is_in, steps_of};
 
 use crate::cuts::{remove_run, split_at};
+use crate::readers::{push_readers, push_reads};
 use crate::slab::{Slab, empty, put};
-use calc_addr::{Cell, NoMemory, Run};
+use calc_addr::{Area, Cell, NoMemory, Run};
 use calc_model::Ear;
 use std::alloc::Global;
 use std::marker::Model;
@@ -128,6 +130,45 @@ impl Hub {
                 Err(fault)
             }
         }
+    }
+
+    /// Appends each formula cell that reads a cell of the area, once, in the order of cells. Linear in the
+    /// registrations that are told of the slots of the area, and in the cells that are appended.
+    pub fn readers(&self, area: Area, out: &mut Vec<Cell>) -> Result<(), NoMemory>
+        requires { self.now.spent ≡ false }
+        ensures ok { OnOk result (Gets out.old.items out.new.items
+            (AreReaders (areas_read self.now) area)) }
+        ensures err { OnErr result (out.new.items ≡ out.old.items) }
+    {
+        push_readers(&self.slab, &area, out)
+    }
+
+    /// The same of one cell.
+    pub fn dependents(&self, cell: Cell, out: &mut Vec<Cell>) -> Result<(), NoMemory>
+        requires { self.now.spent ≡ false }
+        ensures ok { OnOk result (Gets out.old.items out.new.items
+            (AreReaders (areas_read self.now) (single cell))) }
+        ensures err { OnErr result (out.new.items ≡ out.old.items) }
+    {
+        let area = Area {
+            sheet: cell.sheet,
+            first_col: cell.col,
+            last_col: cell.col,
+            first_row: cell.row,
+            last_row: cell.row,
+        };
+        push_readers(&self.slab, &area, out)
+    }
+
+    /// Appends the areas that the cell reads, in the order in which its ears were given. Linear in them,
+    /// and in the registrations that stand in the cell's slots.
+    pub fn reads(&self, cell: Cell, out: &mut Vec<Area>) -> Result<(), NoMemory>
+        requires { self.now.spent ≡ false }
+        ensures ok { OnOk result (out.new.items
+            ≡ out.old.items ++ listed (areas_read self.now cell)) }
+        ensures err { OnErr result (out.new.items ≡ out.old.items) }
+    {
+        push_reads(&self.slab, &cell, out)
     }
 }
 

@@ -4,6 +4,7 @@
 mod cuts;
 mod hub;
 mod listening;
+mod readers;
 mod registration;
 mod slab;
 
