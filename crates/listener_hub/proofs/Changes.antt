@@ -1,18 +1,12 @@
 -- What becomes of registrations, and of what cells read, when one is put at a place or taken away.
-use Rattle.std.proofs.Common.{◌≡◌, ◌⊎◌, ℕ, Bool, true, false, cond, not, ◌&&◌, ◌||◌, List, Option, Some, None, refl, sym, ap, subst, ◌∙◌, ⊎_elim, eq-eqb, arith}
+use Rattle.std.proofs.Common.{◌≡◌, ℕ, true, false, cond, Option, Some, None, refl, sym, ap, subst, ◌∙◌, ⊎_elim, eq-eqb}
 use Rattle.std.specs.Prelude.{◌==◌}
-use Rattle.std.specs.List.{All}
-use Rattle.std.proofs.lemmas.Bool.{and_parts, cases_Bool, eqb-true, false≢true}
-use Rattle.calc_addr.specs.Places.{Place, Rectangle, Rows}
-use Rattle.calc_model.specs.Ears.{ReadArea}
-use Rattle.ears.specs.RunAreas.{LieInSheet, is_same_area}
-use Rattle.area_listeners.specs.declared.listener.Listener.{Listener}
-use Rattle.area_listeners.specs.Listening.{SlotLists, holds}
-use Rattle.area_listeners.specs.Pairs.{is_same}
+use Rattle.std.proofs.lemmas.Bool.{cases_Bool, eqb-true, false≢true}
+use Rattle.calc_addr.specs.Places.{Place}
 use Rattle.listener_hub.specs.declared.registration.Registration.{Registration}
 use Rattle.listener_hub.specs.Cuts.{areas_in}
-use Rattle.listener_hub.specs.Slab.{IsSlab, LiesInSheet, Registrations, area_of, areas_at, areas_of, at, has_cell, hears, is_heard, is_in, stands, steps_of}
-use Rattle.listener_hub.proofs.Places.{AreApart, Lacks, Stands, lacks_read, read_at, read_none, where_read}
+use Rattle.listener_hub.specs.Slab.{AreApart, Registrations, areas_of, at, has_cell, is_in}
+use Rattle.listener_hub.proofs.Places.{Lacks, Stands, lacks_read, read_at, read_none, where_read}
 
 eq_false : (i p : ℕ) → (i ≡ p → ⊥) → (i == p) ≡ false
 eq_false i p ne = ⊎_elim (λ (e : (i == p) ≡ true). absurd (ne (eqb-true i p e))) (λ (e : (i == p) ≡ false). e) (cases_Bool (i == p))
@@ -38,12 +32,12 @@ module _ (rs new : Registrations) (p : ℕ) (o : Option Registration) (is : (i :
 
 -- a registration comes to a place that had none
 module _ (rs new : Registrations) (p : ℕ) (r : Registration) (was : at rs p ≡ None) (is : (i : ℕ) → at new i ≡ cond (i == p) (Some r) (at rs i))
-  (absent : (q : Place) → is_in r.run q ≡ true → areas_of rs q ≡ None) where
+    (absent : (q : Place) → is_in r.run q ≡ true → areas_of rs q ≡ None) where
   free : (i : ℕ) (q : Place) → is_in r.run q ≡ true → has_cell (at rs i) q ≡ true → ⊥
   free i q in_run has = false≢true (sym (read_none rs q (absent q in_run) i) ∙ has)
 
   pub put_apart : AreApart rs → AreApart new
-  put_apart apart i j q = 
+  put_apart apart i j q =
       at_all rs new p (Some r) is (λ m o. has_cell o q ≡ true → has_cell (at new j) q ≡ true → m ≡ j)
       (λ h. at_all rs new p (Some r) is (λ n o. has_cell o q ≡ true → p ≡ n) (λ k. refl) (λ n ne k. absurd (free n q h k)) j)
       (λ m ne h. at_all rs new p (Some r) is (λ n o. has_cell o q ≡ true → m ≡ n) (λ k. absurd (free m q k h)) (λ n other k. apart m n q h k) j)
@@ -61,9 +55,9 @@ module _ (rs new : Registrations) (p : ℕ) (r : Registration) (was : at rs p �
       (where_read rs q)
       ∙ ap (λ b. cond b (Some (areas_in r q)) (areas_of rs q)) (sym e))
       (cases_Bool (is_in r.run q))
-      where
-        some_none : {x : Registration} → Some x ≡ None → ⊥
-        some_none h = cc
+    where
+      some_none : {x : Registration} → Some x ≡ None → ⊥
+      some_none h = cc
 
 -- a place has no registration any more
 module _ (rs new : Registrations) (p : ℕ) (is : (i : ℕ) → at new i ≡ cond (i == p) None (at rs i)) where

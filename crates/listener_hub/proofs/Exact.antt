@@ -1,7 +1,6 @@
 -- The rows that were found are exactly those that read a cell of the area.
-use Rattle.std.proofs.Common.{◌≡◌, ◌⊎◌, ℕ, suc, ◌+◌, ◌-◌, ◌≤◌, Bool, true, false, ◌&&◌, ◌||◌, nat_eq, nat_le, List, [], ◌∷◌, map, Option, Some, None, refl, sym, ap, subst, ◌∙◌, ⊎_elim, arith}
-use Rattle.std.specs.Prelude.{◌==◌}
-use Rattle.std.specs.List.{All, AllByRecursion, Contains, list_any}
+use Rattle.std.proofs.Common.{◌≡◌, ℕ, suc, ◌-◌, ◌≤◌, Bool, true, false, ◌&&◌, ◌||◌, nat_eq, nat_le, List, [], ◌∷◌, map, Option, Some, None, refl, sym, ap, subst, ◌∙◌, ⊎_elim, arith}
+use Rattle.std.specs.List.{All, AllByRecursion, list_any}
 use Rattle.std.proofs.lemmas.Bool.{and_from, and_parts, cases_Bool, eqb-true, false≢true, leb-true}
 use Rattle.std.proofs.lemmas.Bool.Decides.{nat_tests}
 use Rattle.std.proofs.lemmas.List.Folds.{Any-from_list_any, list_any-from_Any}
@@ -15,7 +14,7 @@ use Rattle.area_listeners.specs.Listening.{AreMeeting, SlotLists, has_id}
 use Rattle.listener_hub.specs.declared.registration.Registration.{Registration}
 use Rattle.listener_hub.specs.Cuts.{areas_in}
 use Rattle.listener_hub.specs.Hits.{any_hit, hits_at, is_hit}
-use Rattle.listener_hub.specs.Slab.{IsSlab, LiesInSheet, Registrations, areas_of, at, has_cell, hears, is_heard, is_in, steps_of}
+use Rattle.listener_hub.specs.Slab.{IsSlab, LiesInSheet, Registrations, areas_of, at, has_cell, hears, is_in, steps_of}
 use Rattle.listener_hub.proofs.Places.{Lacks, Stands, where_read}
 use Rattle.listener_hub.proofs.Standing.{same_itself}
 
@@ -44,6 +43,7 @@ hull_meets e steps step area le h =
     first_low : (moves : Bool) (row step last : ℕ) → nat_le (end_at moves row step) last ≡ true → nat_le row last ≡ true
     first_low true row step last h = grind (arith, nat_tests)
     first_low false row step last h = h
+
     last_high : (moves : Bool) (row step steps first : ℕ) → step ≤ steps → nat_le first (end_at moves row step) ≡ true → nat_le first (end_at moves row steps) ≡ true
     last_high true row step steps first le h = grind (arith, nat_tests)
     last_high false row step steps first le h = h
@@ -88,13 +88,14 @@ module _ (rs : Registrations) (ears homes : SlotLists) (slab : IsSlab rs ears ho
   stands_hit : (r : Registration) (q : Place) → is_in r.run q ≡ true → LiesInSheet (Some r) → list_any (λ a. list_any (covers a) (places area)) (areas_in r q) ≡ hits_at (Some r) area q
   stands_hit r q has lies =
       any_area (λ a. list_any (covers a) (places area)) (is_hit r.run area q) (q.row - r.run.first) r.ears.items (each r.ears.items lies.1)
-      where
-        each : (es : List ReadArea) → All (LieInSheet (steps_of r.run)) es → AllByRecursion (λ e. list_any (covers (area_at e (q.row - r.run.first))) (places area) ≡ is_hit r.run area q e) es
-        each [] h = tt
-        each (e ∷ es) h =
-            (meets-covers (area_at e (q.row - r.run.first)) area (inside_hull e (steps_of r.run) (q.row - r.run.first) (h 0 e (omega arith)) (row_below r.run q has)) valid
+    where
+      each : (es : List ReadArea) → All (LieInSheet (steps_of r.run)) es → AllByRecursion (λ e. list_any (covers (area_at e (q.row - r.run.first))) (places area) ≡ is_hit r.run area q e) es
+      each [] h = tt
+      each (e ∷ es) h = (
+        meets-covers (area_at e (q.row - r.run.first)) area (inside_hull e (steps_of r.run) (q.row - r.run.first) (h 0 e (omega arith)) (row_below r.run q has)) valid
             ∙ ap (λ b. b && meets (area_at e (q.row - r.run.first)) area) (sym has),
-            each es (λ k d below. h (suc k) d (omega arith)))
+        each es (λ k d below. h (suc k) d (omega arith)),
+      )
 
   pub exact : (q : Place) → any_hit rs area q ids ≡ reads_one_of (areas_of rs) area q
   exact q =
@@ -107,18 +108,20 @@ module _ (rs : Registrations) (ears homes : SlotLists) (slab : IsSlab rs ears ho
       (λ (l : Lacks rs q).
       none l ids ∙ ap (λ o. list_any (λ a. list_any (covers a) (places area)) (listed o)) (sym l.reads))
       (where_read rs q)
-      where
-        only : (s : Stands rs q) → any_hit rs area q ids ≡ true → hits_at (at rs s.place) area q ≡ true
-        only s h =
-            let i = Any-from_list_any (λ i. hits_at (at rs i) area q) ids h in
-            subst (λ n. hits_at (at rs n) area q ≡ true) (slab.apart i.1 s.place q (hit_has (at rs i.1) area q i.4) (ap (λ o. has_cell o q) s.there ∙ s.has)) i.4
-        all : (s : Stands rs q) → hits_at (at rs s.place) area q ≡ true → any_hit rs area q ids ≡ true
-        all s h =
-            let at_id = Any-from_list_any (nat_eq s.place) ids (hit_found s.place (at rs s.place) q refl h) in
-            list_any-from_Any (λ i. hits_at (at rs i) area q) ids (at_id.0, at_id.1, at_id.2, at_id.3, subst (λ n. hits_at (at rs n) area q ≡ true) (eqb-true s.place at_id.1 at_id.4) h)
-        none : Lacks rs q → (xs : List ℕ) → any_hit rs area q xs ≡ false
-        none l [] = refl
-        none l (i ∷ is) =
-            ap (λ b. b || any_hit rs area q is)
-            (⊎_elim (λ (e : hits_at (at rs i) area q ≡ true). absurd (false≢true (sym (l.none i) ∙ hit_has (at rs i) area q e))) (λ (e : hits_at (at rs i) area q ≡ false). e) (cases_Bool (hits_at (at rs i) area q)))
-            ∙ none l is
+    where
+      only : (s : Stands rs q) → any_hit rs area q ids ≡ true → hits_at (at rs s.place) area q ≡ true
+      only s h =
+          let i = Any-from_list_any (λ i. hits_at (at rs i) area q) ids h in
+          subst (λ n. hits_at (at rs n) area q ≡ true) (slab.apart i.1 s.place q (hit_has (at rs i.1) area q i.4) (ap (λ o. has_cell o q) s.there ∙ s.has)) i.4
+
+      all : (s : Stands rs q) → hits_at (at rs s.place) area q ≡ true → any_hit rs area q ids ≡ true
+      all s h =
+          let at_id = Any-from_list_any (nat_eq s.place) ids (hit_found s.place (at rs s.place) q refl h) in
+          list_any-from_Any (λ i. hits_at (at rs i) area q) ids (at_id.0, at_id.1, at_id.2, at_id.3, subst (λ n. hits_at (at rs n) area q ≡ true) (eqb-true s.place at_id.1 at_id.4) h)
+
+      none : Lacks rs q → (xs : List ℕ) → any_hit rs area q xs ≡ false
+      none l [] = refl
+      none l (i ∷ is) =
+          ap (λ b. b || any_hit rs area q is)
+          (⊎_elim (λ (e : hits_at (at rs i) area q ≡ true). absurd (false≢true (sym (l.none i) ∙ hit_has (at rs i) area q e))) (λ (e : hits_at (at rs i) area q ≡ false). e) (cases_Bool (hits_at (at rs i) area q)))
+          ∙ none l is

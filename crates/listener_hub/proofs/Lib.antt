@@ -1,8 +1,13 @@
 pub mod Changes
 pub mod Exact
+pub mod Goings
 pub mod Linked
 pub mod Parts
+pub mod Pieces
 pub mod Places
+pub mod Prefixes
+pub mod Rests
 pub mod Standing
 pub mod Trimming
 pub mod Trims
+pub mod Wholes

@@ -1,10 +1,10 @@
 -- Who listens, when a registration is put at a place or taken away.
-use Rattle.std.proofs.Common.{◌≡◌, ℕ, Bool, true, false, cond, not, ◌&&◌, ◌||◌, Option, Some, None, refl, sym, ap, subst, ◌∙◌, ⊎_elim, eq-eqb}
+use Rattle.std.proofs.Common.{◌≡◌, ℕ, Bool, true, false, cond, not, ◌&&◌, ◌||◌, Option, Some, None, refl, sym, ap, ◌∙◌, eq-eqb}
 use Rattle.std.specs.Prelude.{◌==◌}
 use Rattle.std.specs.List.{All}
 use Rattle.std.proofs.lemmas.Bool.{ne_eqb}
 use Rattle.calc_addr.specs.Places.{IsRows, Place, Rectangle}
-use Rattle.ears.specs.RunAreas.{LieInSheet, is_same_area}
+use Rattle.ears.specs.RunAreas.{LieInSheet}
 use Rattle.area_listeners.specs.declared.listener.Listener.{Listener}
 use Rattle.area_listeners.specs.Listening.{SlotLists, holds}
 use Rattle.area_listeners.specs.Pairs.{is_same}

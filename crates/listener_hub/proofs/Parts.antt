@@ -1,22 +1,19 @@
 -- What the parts of a registered run read, and where its cells are when rows are cut out.
-use Rattle.std.proofs.Common.{◌≡◌, ℕ, ◌+◌, ◌-◌, ◌≤◌, ◌<◌, Bool, true, false, cond, not, ◌&&◌, ◌||◌, nat_le, nat_lt, List, [], ◌∷◌, map, Option, Some, None, refl, sym, ap, subst, ◌∙◌, ⊎_elim, arith}
+use Rattle.std.proofs.Common.{◌≡◌, ℕ, ◌+◌, ◌-◌, ◌≤◌, Bool, true, false, cond, ◌&&◌, nat_le, nat_lt, List, [], ◌∷◌, map, Option, Some, None, refl, sym, ap, subst, ◌∙◌, ⊎_elim, arith}
 use Rattle.std.specs.Prelude.{◌==◌}
 use Rattle.std.specs.List.{All}
 use Rattle.std.proofs.lemmas.List.Elements.{All-map}
-use Rattle.std.proofs.lemmas.Bool.{and_parts, cases_Bool, eqb-true, false≢true}
+use Rattle.std.proofs.lemmas.Bool.{and_parts, cases_Bool, false≢true}
 use Rattle.std.proofs.lemmas.Bool.Decides.{nat_tests}
 use Rattle.calc_addr.specs.Places.{IsRectangle, Place, Rectangle, Rows}
 use Rattle.calc_model.specs.Ears.{ReadArea, area_at, end_at}
 use Rattle.ears.specs.RunAreas.{LieInSheet, ear_below}
 use Rattle.ears.proofs.Meetings.{inside_hull}
 use Rattle.area_listeners.specs.Listening.{SlotLists}
-use Rattle.listener_hub.specs.declared.registration.Registration.{Registration}
-use Rattle.listener_hub.specs.declared.cuts.Cut.{Cut}
 use Rattle.listener_hub.specs.Changes.{IsPut}
-use Rattle.listener_hub.specs.Cuts.{is_cut, is_part}
+use Rattle.listener_hub.specs.Cuts.{is_part}
 use Rattle.listener_hub.specs.Slab.{IsSlab, Registrations, areas_at, areas_of, at, has_cell, is_in}
 use Rattle.listener_hub.proofs.Changes.{at_all, put_reads}
-use Rattle.listener_hub.proofs.Places.{AreApart}
 
 end_below : (moves : Bool) (row k m n : ℕ) → k + m ≡ n → end_at moves (end_at moves row k) m ≡ end_at moves row n
 end_below true row k m n e = omega arith
@@ -62,7 +59,6 @@ module _ (old new : Registrations) (ears homes : SlotLists) (slab : IsSlab old e
       (λ h. absurd (false≢true (sym out ∙ ap (λ (r : Rows). is_in r q) (sym put.run_is) ∙ h)))
       (λ i ne h. h) j
 
-
 -- what a registered part reads
 pub part_reads : (run : Rows) (ears : List ReadArea) (first last : ℕ) (q : Place) (other : Option (List Rectangle)) → run.first ≤ first
     → cond (is_part run first (last + 1) q) (Some (areas_at (map (λ e. ear_below e (first - run.first)) ears) first q.row)) other ≡ cond (is_part run first (last + 1) q) (Some (areas_at ears run.first q.row)) other
@@ -72,9 +68,9 @@ part_reads run ears first last q other from =
     ap (λ (areas : List Rectangle). cond (is_part run first (last + 1) q) (Some areas) other) (areas_below ears (first - run.first) (q.row - first) (q.row - run.first) (below run.first first q.row from rows.0)))
     (λ (e : is_part run first (last + 1) q ≡ false). ap (λ b. cond b (Some (areas_at (map (λ x. ear_below x (first - run.first)) ears) first q.row)) other) e ∙ ap (λ b. cond b (Some (areas_at ears run.first q.row)) other) (sym e))
     (cases_Bool (is_part run first (last + 1) q))
-    where
-      below : (a b row : ℕ) → a ≤ b → nat_le b row ≡ true → (b - a) + (row - b) ≡ row - a
-      below a b row h k = grind (arith, nat_tests)
+  where
+    below : (a b row : ℕ) → a ≤ b → nat_le b row ≡ true → (b - a) + (row - b) ≡ row - a
+    below a b row h k = grind (arith, nat_tests)
 
 -- the ears of a part's first row
 pub part_lies : (run : Rows) (from first last : ℕ) (ears : List ReadArea) → from ≡ run.first → run.first ≤ first → first ≤ last → last ≤ run.last → All (LieInSheet (run.last - run.first)) ears
@@ -85,8 +81,8 @@ part_lies run from first last ears is low order high lie =
 
 -- a registered part
 module _ (old new : Registrations) (ears homes : SlotLists) (slab : IsSlab old ears homes) (inside run : Rows) (same : inside ≡ run) (first last : ℕ) (below heard : List ReadArea)
-  (are_below : below ≡ map (λ e. ear_below e (first - inside.first)) heard) (put : IsPut old new (record { sheet = inside.sheet; col = inside.col; first = first; last = last }) below)
-  (from : run.first ≤ first) (absent : (q : Place) → is_part run first (last + 1) q ≡ true → areas_of old q ≡ None) where
+    (are_below : below ≡ map (λ e. ear_below e (first - inside.first)) heard) (put : IsPut old new (record { sheet = inside.sheet; col = inside.col; first = first; last = last }) below)
+    (from : run.first ≤ first) (absent : (q : Place) → is_part run first (last + 1) q ≡ true → areas_of old q ≡ None) where
   pub part_registered : (q : Place) → areas_of new q ≡ cond (is_part run first (last + 1) q) (Some (areas_at heard run.first q.row)) (areas_of old q)
   part_registered q =
       let part : Rows = record { sheet = inside.sheet; col = inside.col; first = first; last = last } in

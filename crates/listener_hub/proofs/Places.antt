@@ -1,11 +1,10 @@
 -- Where a cell's areas stand among registrations that are apart.
-use Rattle.std.proofs.Common.{◌≡◌, ◌⊎◌, ℕ, zero, suc, ◌+◌, ◌-◌, Bool, true, false, cond, List, [], ◌∷◌, Option, Some, None, refl, sym, ap, subst, ◌∙◌, inl, inr, ⊎_elim, arith}
+use Rattle.std.proofs.Common.{◌≡◌, ◌⊎◌, ℕ, zero, suc, true, false, cond, List, [], ◌∷◌, Option, Some, None, refl, sym, ap, ◌∙◌, inl, inr, ⊎_elim}
 use Rattle.std.proofs.lemmas.Bool.{cases_Bool, false≢true}
 use Rattle.calc_addr.specs.Places.{Place, Rectangle}
-use Rattle.calc_model.specs.Listeners.{ReadAreas}
 use Rattle.listener_hub.specs.declared.registration.Registration.{Registration}
 use Rattle.listener_hub.specs.Cuts.{areas_in}
-use Rattle.listener_hub.specs.Slab.{Registrations, areas_of, at, has_cell, is_in}
+use Rattle.listener_hub.specs.Slab.{AreApart, Registrations, areas_of, at, has_cell, is_in}
 
 -- a registration has the cell
 pub record Stands (rs : Registrations) (q : Place) : Type 0 where
@@ -39,9 +38,6 @@ where_read (Some r ∷ rs) q =
     (where_read rs q))
     (cases_Bool (is_in r.run q))
 
-abbrev pub AreApart : Registrations → Type 0
-AreApart rs = (i j : ℕ) (q : Place) → has_cell (at rs i) q ≡ true → has_cell (at rs j) q ≡ true → i ≡ j
-
 some_same : {x y : Registration} → Some x ≡ Some y → x ≡ y
 some_same h = cc
 
@@ -66,6 +62,6 @@ read_none rs q e i =
     ⊎_elim (λ (s : Stands rs q). absurd (some_none (sym s.reads ∙ e)))
     (λ (l : Lacks rs q). l.none i)
     (where_read rs q)
-    where
-      some_none : {x : List Rectangle} → Some x ≡ None → ⊥
-      some_none h = cc
+  where
+    some_none : {x : List Rectangle} → Some x ≡ None → ⊥
+    some_none h = cc

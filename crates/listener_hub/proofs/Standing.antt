@@ -1,5 +1,5 @@
 -- Which registrations have a cell of a run.
-use Rattle.std.proofs.Common.{◌≡◌, ℕ, ◌+◌, Bool, true, false, cond, ◌&&◌, nat_eq, nat_le, nat_lt, List, [], Option, Some, None, refl, sym, ap, subst, ◌∙◌, ⊎_elim, arith}
+use Rattle.std.proofs.Common.{◌≡◌, ℕ, ◌+◌, true, false, cond, ◌&&◌, nat_eq, nat_le, nat_lt, List, [], Option, Some, None, refl, sym, ap, subst, ◌∙◌, ⊎_elim, arith}
 use Rattle.std.specs.Prelude.{◌==◌}
 use Rattle.std.specs.List.{list_any}
 use Rattle.std.proofs.lemmas.List.Folds.{Any-from_list_any, list_any-from_Any}
@@ -9,13 +9,13 @@ use Rattle.calc_addr.specs.Places.{IsRectangle, IsRows, Place, Rectangle, Rows}
 use Rattle.calc_model.specs.Listeners.{listed}
 use Rattle.ears.specs.RunAreas.{is_same_area, meets}
 use Rattle.area_listeners.specs.declared.listener.Listener.{Listener}
-use Rattle.area_listeners.specs.Listening.{AreMeeting, SlotLists, has_id, holds}
+use Rattle.area_listeners.specs.Listening.{AreMeeting, SlotLists, has_id}
 use Rattle.listener_hub.specs.declared.registration.Registration.{Registration}
 use Rattle.listener_hub.specs.declared.cuts.Cut.{Cut}
 use Rattle.listener_hub.specs.Cuts.{AreCandidates, cut_of, is_cut}
 use Rattle.listener_hub.specs.Hits.{registered_areas}
-use Rattle.listener_hub.specs.Slab.{IsSlab, LiesInSheet, Registrations, area_of, areas_of, at, has_cell, is_in, stands}
-use Rattle.listener_hub.proofs.Places.{AreApart, lacks_read, read_at}
+use Rattle.listener_hub.specs.Slab.{AreApart, IsSlab, LiesInSheet, Registrations, area_of, areas_of, at, has_cell, is_in, stands}
+use Rattle.listener_hub.proofs.Places.{lacks_read, read_at}
 
 up_to : (row last : ℕ) → nat_lt row (last + 1) ≡ nat_le row last
 up_to row last = grind (arith, nat_tests)
@@ -39,10 +39,10 @@ runs_meet r s q h k =
     let sheet : r.sheet ≡ s.sheet = sym (eqb-true q.sheet r.sheet hc.0) ∙ eqb-true q.sheet s.sheet kc.0 in
     let col : r.col ≡ s.col = sym (eqb-true q.col r.col hc.1) ∙ eqb-true q.col s.col kc.1 in
     meeting r.first r.last s.first s.last q.row sheet col (and_parts _ _ hr.1).0 (and_parts _ _ hr.1).1 (and_parts _ _ ks.1).0 (and_parts _ _ ks.1).1
-    where
-      meeting : (f l g m row : ℕ) {s t c d : ℕ} → s ≡ t → c ≡ d → nat_le f row ≡ true → nat_le row l ≡ true → nat_le g row ≡ true → nat_le row m ≡ true
-          → (((s == t) && (nat_le c d && nat_le d c)) && (nat_le f m && nat_le g l)) ≡ true
-      meeting f l g m row e i a b c d = grind (arith, nat_tests)
+  where
+    meeting : (f l g m row : ℕ) {s t c d : ℕ} → s ≡ t → c ≡ d → nat_le f row ≡ true → nat_le row l ≡ true → nat_le g row ≡ true → nat_le row m ≡ true
+        → (((s == t) && (nat_le c d && nat_le d c)) && (nat_le f m && nat_le g l)) ≡ true
+    meeting f l g m row e i a b c d = grind (arith, nat_tests)
 
 module _ (rs : Registrations) (ears homes : SlotLists) (slab : IsSlab rs ears homes) where
   pub found : (run : Rows) (ids : List ℕ) → AreMeeting homes (area_of run) ids → (j : ℕ) (q : Place) → is_in run q ≡ true → (o : Option Registration) → at rs j ≡ o → has_cell o q ≡ true → has_id ids j ≡ true

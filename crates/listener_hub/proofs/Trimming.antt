@@ -1,5 +1,5 @@
 -- Places are trimmed one after the other.
-use Rattle.std.proofs.Common.{◌≡◌, ℕ, ◌+◌, ◌<◌, ◌≤◌, Bool, true, false, List, drop, length, Option, None, refl, sym, ap, ◌∙◌, ⊎_elim}
+use Rattle.std.proofs.Common.{◌≡◌, ℕ, ◌≤◌, true, false, List, drop, length, None, sym, ap, ◌∙◌, ⊎_elim}
 use Rattle.std.proofs.Math.ListN.{drop_of_length-le}
 use Rattle.std.proofs.lemmas.Bool.{cases_Bool, false≢true}
 use Rattle.calc_addr.specs.Places.{Place}
@@ -7,7 +7,7 @@ use Rattle.area_listeners.specs.Listening.{has_id}
 use Rattle.listener_hub.specs.declared.cuts.Cut.{Cut}
 use Rattle.listener_hub.specs.declared.slab.Slab.{Slab}
 use Rattle.listener_hub.specs.Changes.{IsSlabOf}
-use Rattle.listener_hub.specs.Cuts.{AreCandidates, IsTrimmed, is_cut}
+use Rattle.listener_hub.specs.Cuts.{AreCandidates, is_cut}
 use Rattle.listener_hub.specs.Slab.{Registrations, areas_of, at, has_cell}
 use Rattle.listener_hub.proofs.Places.{lacks_read}
 

@@ -1,5 +1,5 @@
 -- What a registration that is taken out and registered again in parts leaves.
-use Rattle.std.proofs.Common.{◌≡◌, ℕ, Bool, true, false, cond, not, ◌&&◌, List, Option, Some, None, refl, sym, ap, subst, ◌∙◌, ⊎_elim}
+use Rattle.std.proofs.Common.{◌≡◌, ℕ, Bool, true, false, cond, not, ◌&&◌, List, Option, Some, None, refl, sym, ap, ◌∙◌, ⊎_elim}
 use Rattle.std.specs.Prelude.{◌==◌}
 use Rattle.std.proofs.lemmas.Bool.{cases_Bool, false≢true}
 use Rattle.calc_addr.specs.Places.{Place, Rectangle}
@@ -22,12 +22,12 @@ module _ (old mid : Registrations) (ears homes : SlotLists) (slab : IsSlab old e
       → ((j : ℕ) (q : Place) → is_cut cut q ≡ true → has_cell (at new j) q ≡ true → has_cell (at mid j) q ≡ true) → IsTrimmed old new p cut
   trimmed new cut areas others = record {
     areas = λ q.
-    areas q ∙ ap (λ o. cond (is_in r.run q && not (is_cut cut q)) (Some (areas_in r q)) o) (taken_reads old mid p taken slab.apart q)
-    ∙ ap (λ b. cond (is_in r.run q && not (is_cut cut q)) (Some (areas_in r q)) (cond b None (areas_of old q))) (has_same q)
-    ∙ ⊎_elim (λ (e : is_in r.run q ≡ true). together true (is_cut cut q) (areas_of old q) (Some (areas_in r q)) (λ h. read_at old slab.apart p r q was e) (is_in r.run q) e)
-    (λ (e : is_in r.run q ≡ false). together false (is_cut cut q) (areas_of old q) (Some (areas_in r q)) (λ h. absurd (false≢true h)) (is_in r.run q) e)
-    (cases_Bool (is_in r.run q))
-    ∙ ap (λ b. cond (is_cut cut q && b) None (areas_of old q)) (sym (has_same q));
+        areas q ∙ ap (λ o. cond (is_in r.run q && not (is_cut cut q)) (Some (areas_in r q)) o) (taken_reads old mid p taken slab.apart q)
+        ∙ ap (λ b. cond (is_in r.run q && not (is_cut cut q)) (Some (areas_in r q)) (cond b None (areas_of old q))) (has_same q)
+        ∙ ⊎_elim (λ (e : is_in r.run q ≡ true). together true (is_cut cut q) (areas_of old q) (Some (areas_in r q)) (λ h. read_at old slab.apart p r q was e) (is_in r.run q) e)
+        (λ (e : is_in r.run q ≡ false). together false (is_cut cut q) (areas_of old q) (Some (areas_in r q)) (λ h. absurd (false≢true h)) (is_in r.run q) e)
+        (cases_Bool (is_in r.run q))
+        ∙ ap (λ b. cond (is_cut cut q && b) None (areas_of old q)) (sym (has_same q));
     left = λ j q in_cut h. taken_has old mid p taken j q (others j q in_cut h);
   }
     where

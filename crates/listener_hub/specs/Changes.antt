@@ -1,5 +1,5 @@
 -- What becomes of registrations when a run is registered.
-use Rattle.std.specs.Prelude.{◌≡◌, ℕ, ◌==◌, if◌then◌else◌, List, Option, None, Some}
+use Rattle.std.specs.Prelude.{◌≡◌, ℕ, ◌==◌, if◌then◌else◌, List, None, Some}
 use Rattle.calc_addr.specs.Places.{Rows}
 use Rattle.calc_model.specs.Ears.{ReadArea}
 use Rattle.listener_hub.specs.declared.registration.Registration.{Registration}

@@ -3,10 +3,12 @@
 -- Hits: which rows of registrations read a cell of an area.
 -- Hubs: what the formula cells of a hub read.
 -- Known: a hub, as contracts see it.
+-- Moves: what becomes of cells and areas in row edits.
 -- Slab: registrations of runs by place, what their rows read, and who listens to it.
 pub mod Changes
 pub mod Cuts
 pub mod Hits
 pub mod Hubs
 pub mod Known
+pub mod Moves
 pub mod Slab

@@ -57,9 +57,13 @@ abbrev pub LiesInSheet : Option Registration → Type 0
 LiesInSheet None = Unit {0}
 LiesInSheet (Some r) = IsRows r.run × All (LieInSheet (steps_of r.run)) r.ears.items
 
+-- no two registrations have a cell in common
+abbrev pub AreApart : Registrations → Type 0
+AreApart rs = (i j : ℕ) (q : Place) → has_cell (at rs i) q ≡ true → has_cell (at rs j) q ≡ true → i ≡ j
+
 -- Who listens to what the registrations read and to where they stand, which is apart.
 pub record IsSlab (rs : Registrations) (ears homes : SlotLists) : Type 0 where
   pub heard : (l : Listener) → holds ears l ≡ hears (at rs l.id) l.area
   pub homed : (l : Listener) → holds homes l ≡ stands (at rs l.id) l.area
-  pub apart : (i j : ℕ) (q : Place) → has_cell (at rs i) q ≡ true → has_cell (at rs j) q ≡ true → i ≡ j
+  pub apart : AreApart rs
   pub inside : (i : ℕ) → LiesInSheet (at rs i)

@@ -24,7 +24,12 @@ pub(crate) struct Cut {
 }
 
 /// The ears of the rows from the one on that lies so many rows below a run's first one.
-fn ears_below(alloc: Global, ears: &[Ear], step: u32, steps: u32) -> Result<Vec<Ear>, NoMemory>
+pub(crate) fn ears_below(
+    alloc: Global,
+    ears: &[Ear],
+    step: u32,
+    steps: u32,
+) -> Result<Vec<Ear>, NoMemory>
     requires inside { All (LieInSheet steps) ears.now }
     requires step { step ≤ steps }
     ensures { IfOk result (λ v. v.items ≡ map (λ e. ear_below e step) ears.now) }
@@ -88,7 +93,12 @@ fn put_rows(
         → has_cell (at slab.old.registrations.items j) q ≡ true) }
 {
     let run = &registration.run;
-    let ears = ears_below(slab.alloc, &registration.ears, first - run.first, steps_of(run))?;
+    let ears = ears_below(
+        slab.alloc,
+        &registration.ears,
+        first - run.first,
+        steps_of(run),
+    )?;
     let part = Run {
         sheet: run.sheet,
         col: run.col,

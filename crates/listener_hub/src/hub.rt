@@ -2,16 +2,20 @@ ghost use Rattle.std.specs.Prelude.{◌≡◌, ◌≤◌, ◌++◌, false, true,
 ghost use Rattle.std.specs.List.{All};
 ghost use Rattle.calc_addr.specs.Places.{Place, single};
 ghost use Rattle.calc_model.specs.Listeners.{AreReaders, Gets, listed};
+ghost use Rattle.ears.specs.RowEdits.{IsRowEdit};
 ghost use Rattle.ears.specs.RunAreas.{LieInSheet};
 ghost use Rattle.listener_hub.specs.Changes.{IsPut, IsSlabOf};
 ghost use Rattle.listener_hub.specs.Hubs.{areas_read};
+ghost use Rattle.listener_hub.specs.Moves.{IsMoved, KeepsAll, deletion, insertion};
 ghost use Rattle.listener_hub.specs.Slab.{areas_at, areas_of, is_in, steps_of};
 
 use crate::cuts::{remove_run, split_at};
 use crate::readers::{push_readers, push_reads};
+use crate::row_edits::move_rows;
 use crate::slab::{Slab, empty, put};
 use calc_addr::{Area, Cell, NoMemory, Run};
 use calc_model::Ear;
+use ears::{Change, RowEdit};
 use std::alloc::Global;
 use std::marker::Model;
 
@@ -123,6 +127,60 @@ impl Hub {
             row,
         };
         match split_at(&mut self.slab, &cell) {
+            Ok(()) => Ok(()),
+            Err(fault) => {
+                self.slab = empty(self.slab.alloc);
+                self.spent = true;
+                Err(fault)
+            }
+        }
+    }
+
+    /// Moves every cell with its row, and every area on the sheet with its rows, when `count` rows are
+    /// inserted at the row `place`. No formula cell may be pushed past the last row. Linear in what is
+    /// registered, whatever the rows.
+    pub fn insert_rows(&mut self, sheet: u8, place: u32, count: u32) -> Result<(), NoMemory>
+        requires ready { self.old.spent ≡ false }
+        requires edit { IsRowEdit (insertion sheet place count) }
+        requires stays { KeepsAll (insertion sheet place count) (areas_read self.old) }
+        ensures moved { OnOk result (IsMoved (insertion sheet place count)
+            (areas_read self.old) (areas_read self.new)) }
+        ensures ready { OnOk result (self.new.spent ≡ false) }
+        ensures spent { OnErr result (self.new.spent ≡ true) }
+    {
+        let edit = RowEdit {
+            change: Change::Insertion,
+            sheet,
+            place,
+            count,
+        };
+        match move_rows(&mut self.slab, &edit) {
+            Ok(()) => Ok(()),
+            Err(fault) => {
+                self.slab = empty(self.slab.alloc);
+                self.spent = true;
+                Err(fault)
+            }
+        }
+    }
+
+    /// The same when `count` rows from the row `place` on are deleted: the cells in them and the areas
+    /// that lie in them go.
+    pub fn delete_rows(&mut self, sheet: u8, place: u32, count: u32) -> Result<(), NoMemory>
+        requires ready { self.old.spent ≡ false }
+        requires edit { IsRowEdit (deletion sheet place count) }
+        ensures moved { OnOk result (IsMoved (deletion sheet place count)
+            (areas_read self.old) (areas_read self.new)) }
+        ensures ready { OnOk result (self.new.spent ≡ false) }
+        ensures spent { OnErr result (self.new.spent ≡ true) }
+    {
+        let edit = RowEdit {
+            change: Change::Deletion,
+            sheet,
+            place,
+            count,
+        };
+        match move_rows(&mut self.slab, &edit) {
             Ok(()) => Ok(()),
             Err(fault) => {
                 self.slab = empty(self.slab.alloc);

@@ -6,6 +6,7 @@ mod hub;
 mod listening;
 mod readers;
 mod registration;
+mod row_edits;
 mod slab;
 
 pub use hub::Hub;

@@ -39,12 +39,7 @@ fn push_hit(run: &Run, ear: &Ear, area: &Area, hits: &mut Vec<Run>) -> Result<()
 }
 
 /// Appends the rows of a run that read a cell of the area.
-fn push_hits(
-    run: &Run,
-    ears: &[Ear],
-    area: &Area,
-    hits: &mut Vec<Run>,
-) -> Result<(), NoMemory>
+fn push_hits(run: &Run, ears: &[Ear], area: &Area, hits: &mut Vec<Run>) -> Result<(), NoMemory>
     requires { All (LieInSheet (steps_of run.now)) ears.now }
     ensures { OnOk result ((q : Place) → list_any (is_in q) hits.new.items
         ≡ (list_any (is_in q) hits.old.items || list_any (is_hit run.now area.now q) ears.now)) }
@@ -170,12 +165,7 @@ fn push_areas_at(
     if let Some(Some(registration)) = registrations.get(place) {
         let run = &registration.run;
         if run.first <= cell.row && cell.row <= run.last {
-            return push_areas(
-                &registration.ears,
-                cell.row - run.first,
-                steps_of(run),
-                out,
-            );
+            return push_areas(&registration.ears, cell.row - run.first, steps_of(run), out);
         }
     }
     Ok(())

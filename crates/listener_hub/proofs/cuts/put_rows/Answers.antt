@@ -1,4 +1,4 @@
-use Rattle.std.proofs.Common.{◌≡◌, ◌-◌, List, map, sym, ap, subst, ◌∙◌}
+use Rattle.std.proofs.Common.{◌-◌, List, map, sym, ap, subst, ◌∙◌}
 use Rattle.std.specs.List.{All}
 use Rattle.calc_addr.specs.Places.{Rows}
 use Rattle.calc_model.specs.Ears.{ReadArea}

@@ -1,4 +1,4 @@
-use Rattle.std.proofs.Common.{List, ℕ, sym, ap, subst, ◌∙◌}
+use Rattle.std.proofs.Common.{List, ℕ, sym, subst}
 use Rattle.calc_addr.specs.Places.{Rectangle}
 use Rattle.area_listeners.specs.Listening.{AreMeeting}
 use Rattle.listener_hub.specs.declared.cuts.Cut.{Cut}

@@ -1,4 +1,4 @@
-use Rattle.std.proofs.Common.{◌≡◌, sym, ap, ◌∙◌}
+use Rattle.std.proofs.Common.{sym, ◌∙◌}
 use Rattle.listener_hub.proofs.Trims.{taken_absent, trimmed}
 use Rattle.listener_hub.proofs.cuts.trim.Goals as goal
 

@@ -1,4 +1,4 @@
-use Rattle.std.proofs.Common.{◌≡◌, ◌||◌, List, ℕ, ap, subst, ◌∙◌}
+use Rattle.std.proofs.Common.{◌||◌, List, ℕ, ap, subst, ◌∙◌}
 use Rattle.std.specs.List.{list_any}
 use Rattle.calc_addr.specs.Places.{IsRectangle, Rows}
 use Rattle.run_unions.specs.Unions.{is_in}

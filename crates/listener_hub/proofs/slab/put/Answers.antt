@@ -1,10 +1,9 @@
-use Rattle.std.proofs.Common.{◌≡◌, ◌&&◌, ◌||◌, ℕ, List, None, refl, sym, ap, ◌∙◌}
+use Rattle.std.proofs.Common.{◌&&◌, ◌||◌, ℕ, List, refl, sym, ap, ◌∙◌}
 use Rattle.std.specs.Prelude.{◌==◌}
 use Rattle.calc_addr.specs.Places.{Rectangle}
 use Rattle.calc_model.specs.Ears.{ReadArea}
 use Rattle.area_listeners.specs.Listening.{holds}
 use Rattle.area_listeners.specs.Pairs.{is_same}
-use Rattle.listener_hub.specs.declared.registration.Registration.{Registration}
 use Rattle.listener_hub.specs.Slab.{Registrations, at, is_heard}
 use Rattle.listener_hub.proofs.Linked.{put_slab}
 use Rattle.listener_hub.proofs.slab.put.Goals as goal
