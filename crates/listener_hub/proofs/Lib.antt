@@ -6,6 +6,7 @@ pub mod Parts
 pub mod Pieces
 pub mod Places
 pub mod Prefixes
+pub mod Reached
 pub mod Rests
 pub mod Standing
 pub mod Trimming

@@ -1,7 +1,7 @@
 ghost use Rattle.std.specs.Prelude.{◌≡◌, ◌≤◌, ◌++◌, false, true, None, Some, OnErr, OnOk, if◌then◌else◌};
 ghost use Rattle.std.specs.List.{All};
 ghost use Rattle.calc_addr.specs.Places.{Place, single};
-ghost use Rattle.calc_model.specs.Listeners.{AreReaders, Gets, listed};
+ghost use Rattle.calc_model.specs.Listeners.{AreReached, AreReaders, Gets, listed};
 ghost use Rattle.ears.specs.RowEdits.{IsRowEdit};
 ghost use Rattle.ears.specs.RunAreas.{LieInSheet};
 ghost use Rattle.listener_hub.specs.Changes.{IsPut, IsSlabOf};
@@ -10,7 +10,7 @@ ghost use Rattle.listener_hub.specs.Moves.{IsMoved, KeepsAll, deletion, insertio
 ghost use Rattle.listener_hub.specs.Slab.{areas_at, areas_of, is_in, steps_of};
 
 use crate::cuts::{remove_run, split_at};
-use crate::readers::{push_readers, push_reads};
+use crate::readers::{push_reached, push_readers, push_reads};
 use crate::row_edits::move_rows;
 use crate::slab::{Slab, empty, put};
 use calc_addr::{Area, Cell, NoMemory, Run};
@@ -216,6 +216,17 @@ impl Hub {
             last_row: cell.row,
         };
         push_readers(&self.slab, &area, out)
+    }
+
+    /// Appends runs among whose cells are all that read a cell of the area, and none that doesn't reach one.
+    /// A cell may come more than once. Linear in the registrations that are told of the slots of the area.
+    pub fn reached(&self, area: Area, out: &mut Vec<Run>) -> Result<(), NoMemory>
+        requires { self.now.spent ≡ false }
+        ensures ok { OnOk result (Gets out.old.items out.new.items
+            (AreReached (areas_read self.now) area)) }
+        ensures err { OnErr result (out.new.items ≡ out.old.items) }
+    {
+        push_reached(&self.slab, &area, out)
     }
 
     /// Appends the areas that the cell reads, in the order in which its ears were given. Linear in them,
