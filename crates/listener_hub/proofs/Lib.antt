@@ -2,6 +2,7 @@ pub mod Changes
 pub mod Exact
 pub mod Goings
 pub mod Linked
+pub mod PartSteps
 pub mod Parts
 pub mod Pieces
 pub mod Places

@@ -37,7 +37,7 @@ in_cells run q h =
 rows_between : (first last step : ℕ) → step < last + 1 - first → (nat_le first (first + step) && nat_le (first + step) last) ≡ true
 rows_between first last step h = grind (arith, nat_tests)
 
-cells_in : (run : Rows) (q : Place) → Contains (cells_of run) q → is_in q run ≡ true
+pub cells_in : (run : Rows) (q : Place) → Contains (cells_of run) q → is_in q run ≡ true
 cells_in run q (k, below, is) =
     let f : ℕ → Place = λ r. record { sheet = run.sheet; col = run.col; row = r } in
     let n : ℕ = run.last + 1 - run.first in

@@ -4,6 +4,7 @@
 -- Hubs: what the formula cells of a hub read.
 -- Known: a hub, as contracts see it.
 -- Moves: what becomes of cells and areas in row edits.
+-- Parting: the parts of a run.
 -- Slab: registrations of runs by place, what their rows read, and who listens to it.
 pub mod Changes
 pub mod Cuts
@@ -11,4 +12,5 @@ pub mod Hits
 pub mod Hubs
 pub mod Known
 pub mod Moves
+pub mod Parting
 pub mod Slab

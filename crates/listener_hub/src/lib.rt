@@ -4,6 +4,7 @@
 mod cuts;
 mod hub;
 mod listening;
+mod parting;
 mod readers;
 mod registration;
 mod row_edits;

@@ -1,4 +1,4 @@
-ghost use Rattle.std.specs.Prelude.{◌≡◌, ◌&&◌, ◌||◌, ◌==◌, not, OnOk};
+ghost use Rattle.std.specs.Prelude.{◌≡◌, ◌&&◌, ◌||◌, ◌≤◌, ◌-◌, ◌==◌, not, OnOk};
 ghost use Rattle.std.specs.List.{All};
 ghost use Rattle.calc_addr.specs.Places.{IsRows};
 ghost use Rattle.ears.specs.RunAreas.{LieInSheet};
@@ -29,6 +29,14 @@ pub(crate) fn steps_of(run: &Run) -> u32
     ensures rows { IsRows run.now }
 {
     run.last - run.first
+}
+
+/// How far a row lies below the first one of a run.
+pub(crate) fn steps_before(run: &Run, row: u32) -> u32
+    requires { run.now.first ≤ row }
+    ensures { result ≡ row - run.now.first }
+{
+    row - run.first
 }
 
 /// Listens, by that id, to what the rows of a run read.

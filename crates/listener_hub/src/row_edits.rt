@@ -1,6 +1,5 @@
 ghost use Rattle.std.specs.Prelude.{◌≡◌, ◌≤◌, ◌<◌, ◌+◌, ◌-◌, ◌++◌, true, ℕ, None, Some, take, IfOk, OnOk, if◌then◌else◌, option_to_list};
 ghost use Rattle.std.specs.List.{All, filter_map};
-ghost use Rattle.std.specs.Option.{option_copied};
 ghost use Rattle.calc_addr.specs.Places.{IsRows, Place};
 ghost use Rattle.calc_model.specs.Listeners.{ReadAreas};
 ghost use Rattle.ears.specs.RowEdits.{GoTogether, IsRowEdit, RowsGoTogether, ear_after, place_after};
@@ -11,8 +10,8 @@ ghost use Rattle.listener_hub.specs.Moves.{IsMoved, IsPartMoved, IsPieceMoved, K
 ghost use Rattle.listener_hub.specs.Slab.{AreApart, LiesInSheet, areas_of, at, is_in, steps_of};
 
 use crate::cuts::ears_below;
-use crate::listening::steps_of;
-use crate::registration::Registration;
+use crate::listening::{steps_before, steps_of};
+use crate::registration::{Registration, registration_at};
 use crate::slab::{Slab, empty, put};
 use calc_addr::{LAST_ROW, NoMemory, Run};
 use calc_model::Ear;
@@ -160,14 +159,6 @@ fn put_first_of(
     Ok(last)
 }
 
-/// How far a row lies below the first one of a run.
-fn steps_before(run: &Run, row: u32) -> u32
-    requires { run.now.first ≤ row }
-    ensures { result ≡ row - run.now.first }
-{
-    row - run.first
-}
-
 /// Registers the rows of a registration where they go.
 fn put_moved(fresh: &mut Slab, edit: &RowEdit, registration: &Registration) -> Result<(), NoMemory>
     requires slab { IsSlabOf fresh.old }
@@ -221,16 +212,6 @@ fn put_moved_at(
         None => {}
     }
     Ok(())
-}
-
-/// The registration at a place, if there is one.
-fn registration_at(registrations: &[Option<Registration>], place: usize) -> Option<&Registration>
-    ensures { option_copied result ≡ at registrations.now place }
-{
-    match registrations.get(place) {
-        Some(Some(registration)) => Some(registration),
-        _ => None,
-    }
 }
 
 /// All registrations where they go.
