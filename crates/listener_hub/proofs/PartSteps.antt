@@ -1,7 +1,7 @@
 -- The parts of a run by one registration more.
 use Rattle.std.proofs.Common.{◌≡◌, ◌⊎◌, inl, inr, ℕ, ◌+◌, ◌-◌, ◌≤◌, ◌<◌, Bool, true, false, cond, ◌&&◌, ◌||◌, max, min, nat_eq, nat_le, List, [], ◌∷◌, ◌++◌, length, get_or, drop, map, take, Option, Some, None, Result, Ok, Err, refl, sym, ap, subst, ◌∙◌, append_assoc, ⊎_elim, eq-eqb, arith}
 use Rattle.std.specs.Prelude.{◌==◌, OnErr}
-use Rattle.std.specs.List.{All, AllPairs, Contains, list_any, slice_range}
+use Rattle.std.specs.List.{Contains, list_any, slice_range}
 use Rattle.std.specs.List.Sorted.{IsNonDecreasingBy, IsPermutation}
 use Rattle.std.proofs.lemmas.Bool.{and_from, and_parts, cases_Bool, cases_lt, eqb-true, false≢true, leb-true, or_cases}
 use Rattle.std.proofs.lemmas.Bool.Decides.{nat_tests}
@@ -18,7 +18,6 @@ use Rattle.calc_model.specs.Listeners.{ArePartsOf, Gets, IsAbove, IsHeard, IsRow
 use Rattle.ears.specs.RunAreas.{ear_below}
 use Rattle.area_listeners.specs.Listening.{AreMeeting, SlotLists, has_id}
 use Rattle.listener_hub.specs.declared.registration.Registration.{Registration}
-use Rattle.listener_hub.specs.Cuts.{areas_in}
 use Rattle.listener_hub.specs.Parting.{Adds, IsParted, IsParting, IsStep, Skips, first_row, has_row, next_part, part_run}
 use Rattle.listener_hub.specs.Slab.{AreApart, IsSlab, Registrations, area_of, areas_of, at, has_cell, is_in}
 use Rattle.listener_hub.proofs.Parts.{areas_below}
@@ -70,6 +69,7 @@ part_run_is registered run next rows h =
   where
     some_same : {x y : Rows} → Some x ≡ Some y → x ≡ y
     some_same h = cc
+
     none : None ≡ Some rows → ⊥
     none h = cc
 
@@ -79,8 +79,10 @@ part_run_some registered run next column order h =
   where
     whole : Rows
     whole = record { sheet = run.sheet; col = run.col; first = max registered.first next; last = min registered.last run.last }
+
     some_none : {x : Rows} → Some x ≡ None → ⊥
     some_none h = cc
+
     at_most : (a b : ℕ) → a ≤ b → nat_le a b ≡ true
     at_most a b h = grind (arith, nat_tests)
 
@@ -102,8 +104,8 @@ in_both registered run q h k =
     let rb = and_parts (nat_le run.first q.row) (nat_le q.row run.last) b.1 in
     record {
       column = and_from (registered.sheet == run.sheet) (registered.col == run.col)
-      (eq-eqb registered.sheet run.sheet (sym (eqb-true q.sheet registered.sheet ca.0) ∙ eqb-true q.sheet run.sheet cb.0))
-      (eq-eqb registered.col run.col (sym (eqb-true q.col registered.col ca.1) ∙ eqb-true q.col run.col cb.1));
+          (eq-eqb registered.sheet run.sheet (sym (eqb-true q.sheet registered.sheet ca.0) ∙ eqb-true q.sheet run.sheet cb.0))
+          (eq-eqb registered.col run.col (sym (eqb-true q.col registered.col ca.1) ∙ eqb-true q.col run.col cb.1));
       low = leb-true registered.first q.row ra.0;
       high = leb-true q.row registered.last ra.1;
       top = leb-true run.first q.row rb.0;
@@ -131,7 +133,7 @@ id_last done p = list_any-append (nat_eq p) done (p ∷ []) ∙ ap (λ b. has_id
     or_true false = refl
 
 module _ (rs : Registrations) (apart : AreApart rs) (run : Rows) (done : List ℕ) (old now new : List Part) (old_ears es new_es : List ReadArea) (next after p : ℕ)
-  (parting : IsParting rs run done old now old_ears es next) (sorted : (i : ℕ) → has_id done i ≡ true → first_row (at rs i) ≤ first_row (at rs p)) where
+    (parting : IsParting rs run done old now old_ears es next) (sorted : (i : ℕ) → has_id done i ≡ true → first_row (at rs i) ≤ first_row (at rs p)) where
   -- one of the places, or the next one
   either : (q : Place) → list_any (λ i. has_cell (at rs i) q) (done ++ p ∷ []) ≡ true → (list_any (λ i. has_cell (at rs i) q) done ≡ true) ⊎ (has_cell (at rs p) q ≡ true)
   either q h =
@@ -171,6 +173,7 @@ module _ (rs : Registrations) (apart : AreApart rs) (run : Rows) (done : List �
     where
       between : (f n row l m : ℕ) → f ≤ row → n ≤ row → row ≤ l → row ≤ m → max f n ≤ min l m
       between f n row l m a b c d = omega arith
+
       in_front : (q : Place) → is_in run q ≡ true → (o : Option Registration) → at rs p ≡ o → next_part o run next ≡ None → has_cell o q ≡ true → list_any (has_row q.row) parting.parts ≡ true
       in_front q in_run None is none has = absurd (false≢true has)
       in_front q in_run (Some r) is none has =
@@ -225,8 +228,10 @@ module _ (rs : Registrations) (apart : AreApart rs) (run : Rows) (done : List �
       where
         rows_in : (f r l : ℕ) → f ≤ r → r ≤ l → (nat_le f r && nat_le r l) ≡ true
         rows_in f r l h k = grind (arith, nat_tests)
+
         at_most : (f n r : ℕ) → f ≤ r → n ≤ r → max f n ≤ r
         at_most f n r h k = omega arith
+
         at_least : (r l m : ℕ) → r ≤ l → r ≤ m → r ≤ min l m
         at_least r l m h k = omega arith
 
@@ -242,6 +247,7 @@ module _ (rs : Registrations) (apart : AreApart rs) (run : Rows) (done : List �
       where
         rows_in : (f r l : ℕ) → f ≤ r → r ≤ l → (nat_le f r && nat_le r l) ≡ true
         rows_in f r l h k = grind (arith, nat_tests)
+
         le_trans : (a b c : ℕ) → a ≤ b → b ≤ c → a ≤ c
         le_trans a b c h k = omega arith
 
@@ -251,15 +257,17 @@ module _ (rs : Registrations) (apart : AreApart rs) (run : Rows) (done : List �
       inside = (le_trans run.first next a.rows.first parting.from start_low, last_in.1);
       within = (subst (λ (xs : List ReadArea). length es ≤ length xs) (sym a.ears_are) (longer es (map (λ e. ear_below e (a.rows.first - a.registration.run.first)) a.registration.ears.items)), omega arith);
       areas = λ row is_row.
-      read_at rs apart p a.registration (record { sheet = run.sheet; col = run.col; row = row }) a.there (has_place row is_row.0 is_row.1)
-      ∙ ap Some (sym (areas_below a.registration.ears.items (a.rows.first - a.registration.run.first) (row - a.rows.first) (row - a.registration.run.first) (through a.registration.run.first a.rows.first row start_in is_row.0)))
-      ∙ ap (λ (xs : List ReadArea). Some (map (λ ear. area_at ear (row - a.rows.first)) xs)) (sym (ap (λ (xs : List ReadArea). slice_range xs (length es) (length xs)) a.ears_are ∙ slice_new es (map (λ e. ear_below e (a.rows.first - a.registration.run.first)) a.registration.ears.items)));
+          read_at rs apart p a.registration (record { sheet = run.sheet; col = run.col; row = row }) a.there (has_place row is_row.0 is_row.1)
+          ∙ ap Some (sym (areas_below a.registration.ears.items (a.rows.first - a.registration.run.first) (row - a.rows.first) (row - a.registration.run.first) (through a.registration.run.first a.rows.first row start_in is_row.0)))
+          ∙ ap (λ (xs : List ReadArea). Some (map (λ ear. area_at ear (row - a.rows.first)) xs)) (sym (ap (λ (xs : List ReadArea). slice_range xs (length es) (length xs)) a.ears_are ∙ slice_new es (map (λ e. ear_below e (a.rows.first - a.registration.run.first)) a.registration.ears.items)));
     }
       where
         le_trans : (a b c : ℕ) → a ≤ b → b ≤ c → a ≤ c
         le_trans a b c h k = omega arith
+
         longer : (xs ys : List ReadArea) → length xs ≤ length (xs ++ ys)
         longer xs ys = omega (arith, length-append xs ys)
+
         through : (f s row : ℕ) → f ≤ s → s ≤ row → (s - f) + (row - s) ≡ row - f
         through f s row h k = omega arith
 
@@ -274,31 +282,37 @@ module _ (rs : Registrations) (apart : AreApart rs) (run : Rows) (done : List �
           rising = all_pairs_push IsAbove parting.parts part parting.rising (λ k d within. lt_le (get_or parting.parts k d).run.last next a.rows.first (parting.above k d within) start_low);
           above = All-push (λ (x : Part). x.run.last < a.rows.last + 1) parting.parts part (λ k d within. lt_up (get_or parting.parts k d).run.last next a.rows.first a.rows.last (parting.above k d within) start_low in_order) (omega arith);
           heard = All-push (IsHeard (areas_of rs) run new_es) parting.parts part
-          (λ k d within. subst (λ (xs : List ReadArea). IsHeard (areas_of rs) run xs (get_or parting.parts k d)) (sym a.ears_are) (heard_more rs run es below (get_or parting.parts k d) (parting.heard k d within)))
-          part_heard;
+              (λ k d within. subst (λ (xs : List ReadArea). IsHeard (areas_of rs) run xs (get_or parting.parts k d)) (sym a.ears_are) (heard_more rs run es below (get_or parting.parts k d) (parting.heard k d within)))
+              part_heard;
           from = up run.first next a.rows.first a.rows.last parting.from start_low in_order;
           held = held_next;
           each = λ q in_run h.
-          ⊎_elim (λ (e : list_any (λ i. has_cell (at rs i) q) done ≡ true). any_more (has_row q.row) parting.parts part (parting.each q in_run e))
-          (λ (e : has_cell (at rs p) q ≡ true). here q in_run e)
-          (either q h);
+              ⊎_elim (λ (e : list_any (λ i. has_cell (at rs i) q) done ≡ true). any_more (has_row q.row) parting.parts part (parting.each q in_run e))
+              (λ (e : has_cell (at rs p) q ≡ true). here q in_run e)
+              (either q h);
         })
       where
         lt_le : (a b c : ℕ) → a < b → b ≤ c → a < c
         lt_le a b c h k = omega arith
+
         lt_up : (a b c d : ℕ) → a < b → b ≤ c → c ≤ d → a < d + 1
         lt_up a b c d h k l = omega arith
+
         up : (a b c d : ℕ) → a ≤ b → b ≤ c → c ≤ d → a ≤ d + 1
         up a b c d h k l = omega arith
+
         here : (q : Place) → is_in run q ≡ true → has_cell (at rs p) q ≡ true → list_any (has_row q.row) (parting.parts ++ part ∷ []) ≡ true
         here q in_run e =
             ⊎_elim (λ (low : q.row < next). any_more (has_row q.row) parting.parts part (before_next (at rs p) refl q in_run e low))
             (λ (behind : next ≤ q.row). any_last (has_row q.row) parting.parts part (in_part q in_run (ap (λ o. has_cell o q) (sym a.there) ∙ e) behind))
             (cases_lt q.row next)
+
         row_in : (f r l : ℕ) → f ≤ r → r < l + 1 → (nat_le f r && nat_le r l) ≡ true
         row_in f r l h k = grind (arith, nat_tests)
+
         at_most : (f n r x : ℕ) → x ≡ max f n → f ≤ r → n ≤ r → x ≤ r
         at_most f n r x e h k = omega arith
+
         held_next : (q : Place) → is_in run q ≡ true → ((i : ℕ) → has_id (done ++ p ∷ []) i ≡ true → first_row (at rs i) ≤ q.row) → q.row < a.rows.last + 1 → list_any (has_row q.row) (parting.parts ++ part ∷ []) ≡ true
         held_next q in_run firsts low =
             ⊎_elim (λ (e : q.row < next). any_more (has_row q.row) parting.parts part (parting.held q in_run (λ i h. firsts i (id_before done p i h)) e))
@@ -327,6 +341,7 @@ kept_front (p ∷ ps) (m ∷ ms) (n ∷ ns) xs is kept =
   where
     head : {X : Type 0} {a b : X} {ys zs : List X} → a ∷ ys ≡ b ∷ zs → a ≡ b
     head h = cc
+
     tail : {X : Type 0} {a b : X} {ys zs : List X} → a ∷ ys ≡ b ∷ zs → ys ≡ zs
     tail h = cc
 
@@ -369,12 +384,14 @@ are_parts rs ears homes slab run ids sorted old now old_ears es meeting moved (n
   where
     some_none : {x : List Rectangle} → Some x ≡ None → ⊥
     some_none h = cc
+
     standing : (q : Place) → is_in run q ≡ true → (s : Stands rs q) → list_any (λ i. has_cell (at rs i) q) sorted ≡ true
     standing q in_run s =
         let has : has_cell (at rs s.place) q ≡ true = ap (λ o. has_cell o q) s.there ∙ s.has in
         let at_id = Any-from_list_any (nat_eq s.place) ids (found rs ears homes slab run ids meeting s.place q in_run (at rs s.place) refl has) in
         sym (list_any-IsPermutation (λ i. has_cell (at rs i) q) ids sorted moved)
         ∙ list_any-from_Any (λ i. has_cell (at rs i) q) ids (at_id.0, at_id.1, at_id.2, at_id.3, subst (λ n. has_cell (at rs n) q ≡ true) (eqb-true s.place at_id.1 at_id.4) has)
+
     in_parts : (q : Place) → is_in run q ≡ true → (areas : List Rectangle) → areas_of rs q ≡ Some areas → (part : Part) × Contains parting.parts part × IsRowOf part q.row
     in_parts q in_run areas reads =
         ⊎_elim

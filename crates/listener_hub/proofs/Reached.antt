@@ -1,5 +1,5 @@
 -- Runs that were found are runs of cells that read the area.
-use Rattle.std.proofs.Common.{◌≡◌, ℕ, ◌+◌, ◌-◌, ◌≤◌, ◌<◌, Bool, true, ◌&&◌, ◌||◌, nat_le, List, [], ◌∷◌, ◌++◌, length, get_or, map, refl, sym, ap, subst, ◌∙◌, ⊎_elim, arith}
+use Rattle.std.proofs.Common.{◌≡◌, ℕ, ◌+◌, ◌-◌, ◌≤◌, ◌<◌, true, ◌&&◌, ◌||◌, nat_le, List, [], ◌∷◌, refl, sym, ap, subst, ◌∙◌, ⊎_elim, arith}
 use Rattle.std.specs.Prelude.{◌==◌}
 use Rattle.std.specs.List.{Contains, flat_map, list_any}
 use Rattle.std.proofs.lemmas.Bool.{and_from, and_parts, eqb-true, false≢true, leb-true, or_cases}
@@ -24,13 +24,16 @@ in_cells run q h =
     let f : ℕ → Place = λ r. record { sheet = run.sheet; col = run.col; row = r } in
     let n : ℕ = run.last + 1 - run.first in
     let step : ℕ = q.row - run.first in
-    let within : step < n = under run.first q.row run.last low high in
-    (step, subst (λ m. step < m) (sym (length-map-range_with_len f run.first n)) within,
-    get_or-map-range_with_len f run.first n step q.row q within (back run.first q.row low)
-    ∙ same_place (sym (eqb-true q.sheet run.sheet column.0)) (sym (eqb-true q.col run.col column.1)) refl)
+    let within : step < n = under run.first q.row run.last low high in (
+      step,
+      subst (λ m. step < m) (sym (length-map-range_with_len f run.first n)) within,
+      get_or-map-range_with_len f run.first n step q.row q within (back run.first q.row low)
+          ∙ same_place (sym (eqb-true q.sheet run.sheet column.0)) (sym (eqb-true q.col run.col column.1)) refl,
+    )
   where
     under : (f r l : ℕ) → f ≤ r → r ≤ l → r - f < l + 1 - f
     under f r l h k = omega arith
+
     back : (f r : ℕ) → f ≤ r → f + (r - f) ≡ r
     back f r h = omega arith
 

@@ -1,7 +1,7 @@
-ghost use Rattle.std.specs.Prelude.{◌≡◌, ◌≤◌, ◌++◌, false, true, None, Some, OnErr, OnOk, if◌then◌else◌};
+ghost use Rattle.std.specs.Prelude.{◌≡◌, ◌≤◌, false, true, None, Some, OnErr, OnOk, if◌then◌else◌};
 ghost use Rattle.std.specs.List.{All};
 ghost use Rattle.calc_addr.specs.Places.{Place, single};
-ghost use Rattle.calc_model.specs.Listeners.{AreReached, AreReaders, Gets, listed};
+ghost use Rattle.calc_model.specs.Listeners.{AreReaders, Gets};
 ghost use Rattle.ears.specs.RowEdits.{IsRowEdit};
 ghost use Rattle.ears.specs.RunAreas.{LieInSheet};
 ghost use Rattle.listener_hub.specs.Changes.{IsPut, IsSlabOf};
@@ -10,11 +10,12 @@ ghost use Rattle.listener_hub.specs.Moves.{IsMoved, KeepsAll, deletion, insertio
 ghost use Rattle.listener_hub.specs.Slab.{areas_at, areas_of, is_in, steps_of};
 
 use crate::cuts::{remove_run, split_at};
+use crate::parting::push_parts;
 use crate::readers::{push_reached, push_readers, push_reads};
 use crate::row_edits::move_rows;
 use crate::slab::{Slab, empty, put};
 use calc_addr::{Area, Cell, NoMemory, Run};
-use calc_model::Ear;
+use calc_model::{Dependents, Ear, Part};
 use ears::{Change, RowEdit};
 use std::alloc::Global;
 use std::marker::Model;
@@ -190,18 +191,8 @@ impl Hub {
         }
     }
 
-    /// Appends each formula cell that reads a cell of the area, once, in the order of cells. Linear in the
-    /// registrations that are told of the slots of the area, and in the cells that are appended.
-    pub fn readers(&self, area: Area, out: &mut Vec<Cell>) -> Result<(), NoMemory>
-        requires { self.now.spent ≡ false }
-        ensures ok { OnOk result (Gets out.old.items out.new.items
-            (AreReaders (areas_read self.now) area)) }
-        ensures err { OnErr result (out.new.items ≡ out.old.items) }
-    {
-        push_readers(&self.slab, &area, out)
-    }
-
-    /// The same of one cell.
+    /// Appends each formula cell that reads the cell, once, in the order of cells. It costs what `readers` of
+    /// one cell costs.
     pub fn dependents(&self, cell: Cell, out: &mut Vec<Cell>) -> Result<(), NoMemory>
         requires { self.now.spent ≡ false }
         ensures ok { OnOk result (Gets out.old.items out.new.items
@@ -217,27 +208,37 @@ impl Hub {
         };
         push_readers(&self.slab, &area, out)
     }
+}
 
-    /// Appends runs among whose cells are all that read a cell of the area, and none that doesn't reach one.
-    /// A cell may come more than once. Linear in the registrations that are told of the slots of the area.
-    pub fn reached(&self, area: Area, out: &mut Vec<Run>) -> Result<(), NoMemory>
-        requires { self.now.spent ≡ false }
-        ensures ok { OnOk result (Gets out.old.items out.new.items
-            (AreReached (areas_read self.now) area)) }
-        ensures err { OnErr result (out.new.items ≡ out.old.items) }
-    {
-        push_reached(&self.slab, &area, out)
+impl Dependents for Hub {
+    ghost use Rattle.listener_hub.specs.Hubs.{areas_read, is_ready};
+
+    ghost areas = { areas_read };
+
+    ghost ready = { is_ready };
+
+    /// Appends each formula cell that reads a cell of the area, once, in the order of cells. Linear in the
+    /// registrations that are told of the slots of the area, and in the cells that are appended.
+    fn readers(&self, area: Area, out: &mut Vec<Cell>) -> Result<(), NoMemory> {
+        push_readers(&self.slab, &area, out)
     }
 
     /// Appends the areas that the cell reads, in the order in which its ears were given. Linear in them,
     /// and in the registrations that stand in the cell's slots.
-    pub fn reads(&self, cell: Cell, out: &mut Vec<Area>) -> Result<(), NoMemory>
-        requires { self.now.spent ≡ false }
-        ensures ok { OnOk result (out.new.items
-            ≡ out.old.items ++ listed (areas_read self.now cell)) }
-        ensures err { OnErr result (out.new.items ≡ out.old.items) }
-    {
+    fn reads(&self, cell: Cell, out: &mut Vec<Area>) -> Result<(), NoMemory> {
         push_reads(&self.slab, &cell, out)
+    }
+
+    /// Appends the rows that read a cell of the area, as runs. Linear in the registrations that are told of
+    /// the slots of the area.
+    fn reached(&self, area: Area, out: &mut Vec<Run>) -> Result<(), NoMemory> {
+        push_reached(&self.slab, &area, out)
+    }
+
+    /// Appends the parts of the run, one for each registration. Linear in the registrations that stand in
+    /// its slots, which are sorted, and in their ears.
+    fn parts(&self, run: Run, parts: &mut Vec<Part>, ears: &mut Vec<Ear>) -> Result<(), NoMemory> {
+        push_parts(&self.slab, &run, parts, ears)
     }
 }
 

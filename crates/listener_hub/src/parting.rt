@@ -15,12 +15,7 @@ use calc_model::{Ear, Part};
 use ears::ear_below;
 
 /// Appends the ears of the rows from the one on that lies so many rows below a run's first one.
-fn push_ears_below(
-    ears: &[Ear],
-    step: u32,
-    steps: u32,
-    out: &mut Vec<Ear>,
-) -> Result<(), NoMemory>
+fn push_ears_below(ears: &[Ear], step: u32, steps: u32, out: &mut Vec<Ear>) -> Result<(), NoMemory>
     requires inside { All (LieInSheet steps) ears.now }
     requires step { step ≤ steps }
     ensures ok { OnOk result (out.new.items

@@ -1,4 +1,4 @@
-use Rattle.std.proofs.Common.{◌++◌, ◌∷◌, [], List, get_or, take, sym, subst, ℕ}
+use Rattle.std.proofs.Common.{List, get_or, take, sym, subst, ℕ}
 use Rattle.std.proofs.lemmas.List.{take_more}
 use Rattle.listener_hub.specs.Parting.{IsParting, first_row}
 use Rattle.listener_hub.specs.Slab.{at}
