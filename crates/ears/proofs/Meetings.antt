@@ -7,7 +7,7 @@ use Rattle.calc_addr.specs.Places.{IsRectangle, Place, Rectangle, covers, places
 use Rattle.calc_addr.proofs.Walking.Places.{Contains-places, covers-contained}
 use Rattle.calc_model.proofs.Areas.{inside}
 use Rattle.calc_model.specs.Ears.{ReadArea, area_at}
-use Rattle.ears.specs.RunAreas.{LieInSheet, hull, meets}
+use Rattle.ears.specs.RunAreas.{LieInSheet, meets}
 
 pub both_ways : (a b : Bool) → (a ≡ true → b ≡ true) → (b ≡ true → a ≡ true) → a ≡ b
 both_ways true b f g = sym (f refl)
@@ -55,6 +55,3 @@ inside_hull ear steps step h le = record {
   rows_in_order = grind (arith, nat_tests, h.first.rows_in_order, h.last.rows_in_order);
   rows_to = grind (arith, nat_tests, h.first.rows_to, h.last.rows_to);
 }
-
-pub hull_holds : (ear : ReadArea) (steps step : ℕ) (p : Place) → step ≤ steps → covers (area_at ear step) p ≡ true → covers (hull ear steps) p ≡ true
-hull_holds ear steps step p le h = grind (arith, nat_tests)

@@ -3,7 +3,7 @@ use Rattle.std.proofs.Common.{◌≡◌, ℕ, ◌+◌, ◌-◌, ◌≤◌, Bool,
 use Rattle.std.specs.Prelude.{◌==◌}
 use Rattle.std.specs.List.{All}
 use Rattle.std.proofs.lemmas.List.Elements.{All-map}
-use Rattle.std.proofs.lemmas.Bool.{and_parts, cases_Bool, false≢true}
+use Rattle.std.proofs.lemmas.Bool.{and_parts, cases_Bool}
 use Rattle.std.proofs.lemmas.Bool.Decides.{nat_tests}
 use Rattle.calc_addr.specs.Places.{IsRectangle, Place, Rectangle, Rows}
 use Rattle.calc_model.specs.Ears.{ReadArea, area_at, end_at}
@@ -12,8 +12,8 @@ use Rattle.ears.proofs.Meetings.{inside_hull}
 use Rattle.area_listeners.specs.Listening.{SlotLists}
 use Rattle.listener_hub.specs.Changes.{IsPut}
 use Rattle.listener_hub.specs.Cuts.{is_part}
-use Rattle.listener_hub.specs.Slab.{IsSlab, Registrations, areas_at, areas_of, at, has_cell, is_in}
-use Rattle.listener_hub.proofs.Changes.{at_all, put_reads}
+use Rattle.listener_hub.specs.Slab.{IsSlab, Registrations, areas_at, areas_of, is_in}
+use Rattle.listener_hub.proofs.Changes.{put_reads}
 
 end_below : (moves : Bool) (row k m n : ℕ) → k + m ≡ n → end_at moves (end_at moves row k) m ≡ end_at moves row n
 end_below true row k m n e = omega arith
@@ -52,12 +52,6 @@ module _ (old new : Registrations) (ears homes : SlotLists) (slab : IsSlab old e
       put_reads old new put.place put.registration put.was put.is absent_there slab.apart q
       ∙ ap (λ (r : Rows). cond (is_in r q) (Some (areas_at put.registration.ears.items r.first q.row)) (areas_of old q)) put.run_is
       ∙ ap (λ (es : List ReadArea). cond (is_in run q) (Some (areas_at es run.first q.row)) (areas_of old q)) put.ears_are
-
-  pub others_registered : (j : ℕ) (q : Place) → is_in run q ≡ false → has_cell (at new j) q ≡ true → has_cell (at old j) q ≡ true
-  others_registered j q out =
-      at_all old new put.place (Some put.registration) put.is (λ i o. has_cell o q ≡ true → has_cell (at old i) q ≡ true)
-      (λ h. absurd (false≢true (sym out ∙ ap (λ (r : Rows). is_in r q) (sym put.run_is) ∙ h)))
-      (λ i ne h. h) j
 
 -- what a registered part reads
 pub part_reads : (run : Rows) (ears : List ReadArea) (first last : ℕ) (q : Place) (other : Option (List Rectangle)) → run.first ≤ first

@@ -1,5 +1,5 @@
 -- The rows of a registration are moved piece by piece.
-use Rattle.std.proofs.Common.{◌≡◌, ℕ, ◌+◌, ◌-◌, ◌≤◌, ◌<◌, true, ◌&&◌, nat_le, nat_lt, List, map, Some, None, sym, ap, ◌∙◌, ⊎_elim, arith}
+use Rattle.std.proofs.Common.{◌≡◌, ℕ, ◌+◌, ◌-◌, ◌≤◌, ◌<◌, true, ◌&&◌, nat_le, nat_lt, List, map, Some, sym, ap, ◌∙◌, ⊎_elim, arith}
 use Rattle.std.specs.Prelude.{◌==◌}
 use Rattle.std.proofs.lemmas.Bool.{and_from, and_parts, cases_lt, leb-true, ltb-true}
 use Rattle.std.proofs.lemmas.Bool.Decides.{nat_tests}
@@ -7,7 +7,7 @@ use Rattle.calc_addr.specs.Places.{Place, Rectangle, Rows}
 use Rattle.calc_model.specs.Ears.{ReadArea, area_at}
 use Rattle.calc_model.specs.Listeners.{ReadAreas}
 use Rattle.ears.specs.declared.row_edit.RowEdit.{RowEdit}
-use Rattle.ears.specs.RowEdits.{areas_after, place_after}
+use Rattle.ears.specs.RowEdits.{areas_after}
 use Rattle.ears.specs.RunAreas.{ear_below}
 use Rattle.listener_hub.specs.declared.registration.Registration.{Registration}
 use Rattle.listener_hub.specs.Cuts.{is_part}
@@ -67,11 +67,3 @@ parts_join edit r first m end old mid new low high a b = record {
 
     under : (a b c : ℕ) → a < b → b ≤ c → a < c
     under a b c h k = omega arith
-
--- where nothing was before, a part leaves nothing of other rows
-pub still_absent : (edit : RowEdit) (r : Registration) (first m : ℕ) (old mid : ReadAreas) → IsPartMoved edit r first m old mid → (q d : Place) → m ≤ q.row → place_after edit q ≡ Some d → old d ≡ None → mid d ≡ None
-still_absent edit r first m old mid a q d behind goes none =
-    a.elsewhere d (λ p h goes_too. apart p (one_to_one edit p q d goes_too goes) (part_end r.run first m p h)) ∙ none
-  where
-    apart : (p : Place) → p ≡ q → p.row < m → ⊥
-    apart p e h = let rows : p.row ≡ q.row = ap (λ (x : Place). x.row) e in omega arith

@@ -83,14 +83,8 @@ impl Hub {
         ensures ready { OnOk result (self.new.spent ≡ false) }
         ensures spent { OnErr result (self.new.spent ≡ true) }
     {
-        match attach_in(&mut self.slab, &run, ears) {
-            Ok(()) => Ok(()),
-            Err(fault) => {
-                self.slab = empty(self.slab.alloc);
-                self.spent = true;
-                Err(fault)
-            }
-        }
+        let done = attach_in(&mut self.slab, &run, ears);
+        settle(&mut self.slab, &mut self.spent, done)
     }
 
     /// Takes away the cells of a run that are there. Linear in the registrations that stand in its slots,
@@ -102,14 +96,8 @@ impl Hub {
         ensures ready { OnOk result (self.new.spent ≡ false) }
         ensures spent { OnErr result (self.new.spent ≡ true) }
     {
-        match remove_run(&mut self.slab, &run) {
-            Ok(()) => Ok(()),
-            Err(fault) => {
-                self.slab = empty(self.slab.alloc);
-                self.spent = true;
-                Err(fault)
-            }
-        }
+        let done = remove_run(&mut self.slab, &run);
+        settle(&mut self.slab, &mut self.spent, done)
     }
 
     /// Cuts what is registered of the run's column in two in front of a row of the run, which changes
@@ -127,14 +115,8 @@ impl Hub {
             col: run.col,
             row,
         };
-        match split_at(&mut self.slab, &cell) {
-            Ok(()) => Ok(()),
-            Err(fault) => {
-                self.slab = empty(self.slab.alloc);
-                self.spent = true;
-                Err(fault)
-            }
-        }
+        let done = split_at(&mut self.slab, &cell);
+        settle(&mut self.slab, &mut self.spent, done)
     }
 
     /// Moves every cell with its row, and every area on the sheet with its rows, when `count` rows are
@@ -155,14 +137,8 @@ impl Hub {
             place,
             count,
         };
-        match move_rows(&mut self.slab, &edit) {
-            Ok(()) => Ok(()),
-            Err(fault) => {
-                self.slab = empty(self.slab.alloc);
-                self.spent = true;
-                Err(fault)
-            }
-        }
+        let done = move_rows(&mut self.slab, &edit);
+        settle(&mut self.slab, &mut self.spent, done)
     }
 
     /// The same when `count` rows from the row `place` on are deleted: the cells in them and the areas
@@ -181,14 +157,8 @@ impl Hub {
             place,
             count,
         };
-        match move_rows(&mut self.slab, &edit) {
-            Ok(()) => Ok(()),
-            Err(fault) => {
-                self.slab = empty(self.slab.alloc);
-                self.spent = true;
-                Err(fault)
-            }
-        }
+        let done = move_rows(&mut self.slab, &edit);
+        settle(&mut self.slab, &mut self.spent, done)
     }
 
     /// Appends each formula cell that reads the cell, once, in the order of cells. It costs what `readers` of
@@ -240,6 +210,22 @@ impl Dependents for Hub {
     fn parts(&self, run: Run, parts: &mut Vec<Part>, ears: &mut Vec<Ear>) -> Result<(), NoMemory> {
         push_parts(&self.slab, &run, parts, ears)
     }
+}
+
+/// Leaves a hub spent where memory was refused.
+fn settle(slab: &mut Slab, spent: &mut bool, done: Result<(), NoMemory>) -> Result<(), NoMemory>
+    requires { OnOk done (IsSlabOf slab.old) }
+    ensures result { result ≡ done }
+    ensures slab { IsSlabOf slab.new }
+    ensures areas { OnOk result (slab.new.registrations.items ≡ slab.old.registrations.items) }
+    ensures same { OnOk result (spent.new ≡ spent.old) }
+    ensures spent { OnErr result (spent.new ≡ true) }
+{
+    if done.is_err() {
+        *slab = empty(slab.alloc);
+        *spent = true;
+    }
+    done
 }
 
 fn attach_in(slab: &mut Slab, run: &Run, ears: &[Ear]) -> Result<(), NoMemory>

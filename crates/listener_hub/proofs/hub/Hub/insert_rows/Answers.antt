@@ -4,5 +4,5 @@ use Rattle.listener_hub.specs.Moves.{KeepsAll, insertion}
 use Rattle.listener_hub.specs.Slab.{areas_of}
 use Rattle.listener_hub.proofs.hub.Hub.insert_rows.Goals as goal
 
-pub move_rows-requires-clause-stays : goal.move_rows-requires-clause-stays
-move_rows-requires-clause-stays c = subst (λ (z : Known). KeepsAll (insertion c.args.sheet c.args.place c.args.count) (areas_of z.registrations)) (sym c.self.view_is) c.requires.stays
+pub move_rows-done-requires-clause-stays : goal.move_rows-done-requires-clause-stays
+move_rows-done-requires-clause-stays c = subst (λ (z : Known). KeepsAll (insertion c.args.sheet c.args.place c.args.count) (areas_of z.registrations)) (sym c.self.view_is) c.requires.stays
