@@ -85,7 +85,8 @@ fn put_rows(
         → areas_of slab.old.registrations.items q ≡ None }
     ensures slab { OnOk result (IsSlabOf slab.new) }
     ensures areas { OnOk result ((q : Place) → areas_of slab.new.registrations.items q
-        ≡ (if is_part registration.now.run first (last + 1) q then Some (areas_in registration.now q)
+        ≡ (if is_part registration.now.run first (last + 1) q
+        then Some (areas_in registration.now q)
         else areas_of slab.old.registrations.items q)) }
     ensures others { OnOk result ((j : ℕ) (q : Place)
         → is_part registration.now.run first (last + 1) q ≡ false

@@ -70,9 +70,9 @@ impl Hub {
         self.spent = true;
     }
 
-    /// Adds the cells of a run, none of which is there, with the areas that they read: the ears are those
-    /// of the run's first row. Linear in the ears and in the slots of their areas, and independent of the
-    /// rows where these areas move.
+    /// Adds the cells of a run, none of which is there, with the areas that they read: the ears are
+    /// those of the run's first row. Linear in the ears and in the slots of what they read, which are at
+    /// most sixteen a column, however many rows the run has.
     pub fn attach(&mut self, run: Run, ears: &[Ear]) -> Result<(), NoMemory>
         requires ready { self.old.spent ≡ false }
         requires absent { (q : Place) → is_in run q ≡ true → areas_read self.old q ≡ None }
