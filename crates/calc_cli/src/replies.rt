@@ -100,10 +100,7 @@ fn edit_text(alloc: Global, workbook: &Workbook, edit: &Edit) -> Result<Vec<u8>,
     Ok(text)
 }
 
-fn recalculate<W: Watcher>(
-    alloc: Global,
-    session: &mut Session<W>,
-) -> Result<Reply, NoMemory>
+fn recalculate<W: Watcher>(alloc: Global, session: &mut Session<W>) -> Result<Reply, NoMemory>
     ensures { Replies result (session_of session.new) (accepted
         (recalculated (session_of session.old)) (recalculation (session_of session.old))) }
 {
@@ -161,11 +158,7 @@ fn watch<W: Watcher>(
     }
 }
 
-fn tell<W: Watcher>(
-    alloc: Global,
-    session: &Session<W>,
-    number: usize,
-) -> Result<Reply, NoMemory>
+fn tell<W: Watcher>(alloc: Global, session: &Session<W>, number: usize) -> Result<Reply, NoMemory>
     ensures { Replies result (session_of session.now)
         (done (session_of session.now) number Command.Told) }
 {

@@ -35,7 +35,9 @@ impl<W: Watcher> Model for Session<W> {
     ghost coded = { Prim.hlevel (codes, coded_tree.the_row.coded) };
 
     ghost view = { λ s. record {
-        workbook = s.workbook; watchers = s.desktop; stock = length s.stock.items
+      workbook = s.workbook;
+      watchers = s.desktop;
+      stock = length s.stock.items;
     } };
 
     ghost invariant = { λ s. All (λ w. W.told w ≡ []) s.stock.items };
@@ -91,9 +93,7 @@ impl<W: Watcher> Session<W> {
         ensures { OnOk result (session_of self.new ≡ with_watcher (session_of self.old) area) }
     {
         match take_one(&mut self.stock) {
-            Some(watcher) => self
-                .desktop
-                .attach(watcher, area, &self.workbook.values()),
+            Some(watcher) => self.desktop.attach(watcher, area, &self.workbook.values()),
             None => Ok(()),
         }
     }

@@ -64,12 +64,7 @@ impl<W: Watcher> Desktop<W> {
 
     /// Attaches a watcher of an area, which knows the values that the cells have now. Where memory
     /// is refused, the watcher is dropped. Linear in the area's cells.
-    pub fn attach<V: Values>(
-        &mut self,
-        watcher: W,
-        area: Area,
-        values: &V,
-    ) -> Result<(), NoMemory>
+    pub fn attach<V: Values>(&mut self, watcher: W, area: Area, values: &V) -> Result<(), NoMemory>
         ensures ok { OnOk result (self.new ≡ self.old
             ++ watched area (values_in (V.values values.now) area) (W.told watcher) ∷ []) }
         ensures err { OnErr result (self.new ≡ self.old) }

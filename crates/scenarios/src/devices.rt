@@ -20,7 +20,17 @@ fn a_missing_book_ends_with_3(rt: HostRuntime) -> Result<(), Fail> {
     let alloc = rt.alloc();
     let mut desk = SteadyDesk::new(Vec::new(alloc), bytes(alloc, SCRIPT)?);
     let mut sink = SteadySink::new(alloc, 64)?;
-    assert_eq!(rt; run(&rt, alloc, &words(alloc)?, &mut desk, &mut sink, pads(alloc, 0)?), 3);
+    assert_eq!(rt;
+        run(
+            &rt,
+            alloc,
+            &words(alloc)?,
+            &mut desk,
+            &mut sink,
+            pads(alloc, 0)?
+        ),
+        3
+    );
     assert_eq!(rt; sink.written(), b"".as_slice());
     Ok(())
 }
@@ -34,7 +44,10 @@ fn bad_words_end_with_2(rt: HostRuntime) -> Result<(), Fail> {
     for words in [option, two, none] {
         let mut desk = SteadyDesk::new(books(alloc, bytes(alloc, BOOK)?)?, bytes(alloc, SCRIPT)?);
         let mut sink = SteadySink::new(alloc, 64)?;
-        assert_eq!(rt; run(&rt, alloc, &words, &mut desk, &mut sink, pads(alloc, 0)?), 2);
+        assert_eq!(rt;
+            run(&rt, alloc, &words, &mut desk, &mut sink, pads(alloc, 0)?),
+            2
+        );
         assert_eq!(rt; sink.written(), b"".as_slice());
     }
     Ok(())
@@ -66,7 +79,14 @@ fn failing(
         3,
     );
     let mut sink = MemorySink::new(alloc, 64, vec![in alloc; sink_call]?, 3)?;
-    let status = run(rt, alloc, &words(alloc)?, &mut desk, &mut sink, pads(alloc, 0)?);
+    let status = run(
+        rt,
+        alloc,
+        &words(alloc)?,
+        &mut desk,
+        &mut sink,
+        pads(alloc, 0)?,
+    );
     Ok((status, Vec::from_slice(alloc, sink.written())?))
 }
 

@@ -40,7 +40,14 @@ pub(crate) fn outcome(
 ) -> Result<(u8, Vec<u8>), AllocError> {
     let mut desk = SteadyDesk::new(books(alloc, book)?, script);
     let mut sink = SteadySink::new(alloc, ROOM)?;
-    let status = run(rt, alloc, &words(alloc)?, &mut desk, &mut sink, pads(alloc, 0)?);
+    let status = run(
+        rt,
+        alloc,
+        &words(alloc)?,
+        &mut desk,
+        &mut sink,
+        pads(alloc, 0)?,
+    );
     Ok((status, Vec::from_slice(alloc, sink.written())?))
 }
 

@@ -1,0 +1,10 @@
+//! Listeners to areas: pairs of an area and an id, which are found by an area that meets theirs.
+#![tactic(auto)]
+
+mod gathering;
+mod listener;
+mod listeners;
+mod slots;
+
+pub use listener::Listener;
+pub use listeners::AreaListeners;

@@ -1,0 +1,3 @@
+pub mod Meetings
+pub mod Together
+pub mod RunsMoved

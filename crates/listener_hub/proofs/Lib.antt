@@ -1,0 +1,15 @@
+pub mod Changes
+pub mod Exact
+pub mod Goings
+pub mod Linked
+pub mod PartSteps
+pub mod Parts
+pub mod Pieces
+pub mod Places
+pub mod Prefixes
+pub mod Reached
+pub mod Rests
+pub mod Standing
+pub mod Trimming
+pub mod Trims
+pub mod Wholes

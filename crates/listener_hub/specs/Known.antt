@@ -1,0 +1,7 @@
+-- A hub, as contracts see it.
+use Rattle.std.specs.Prelude.{Bool}
+use Rattle.listener_hub.specs.Slab.{Registrations}
+
+pub record Known : Type 0 where
+  pub registrations : Registrations
+  pub spent : Bool
