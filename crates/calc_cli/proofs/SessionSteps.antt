@@ -12,7 +12,7 @@ use Rattle.calc_model.specs.declared.edit.EditCause.{EditCause}
 use Rattle.calc_script.specs.declared.command.Cause.TheVariants as causes
 use Rattle.calc_watch.specs.Reports.{Watched, watched}
 use Rattle.calc_watch.specs.declared.report.Report.{Report}
-use Rattle.workbook.specs.Workbook.{IsRefused, Made, State, stale_of}
+use Rattle.workbook.specs.Workbook.{IsRefused, Made, State}
 use Rattle.calc_cli.specs.declared.replies.Reply.{Reply}
 use Rattle.calc_cli.specs.Output.{Answer, Session, edit_text, edited, refusal_text, with_watcher}
 use Rattle.calc_cli.specs.Sessions.{Replies, SessionState, session_of}
