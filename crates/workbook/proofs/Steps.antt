@@ -140,13 +140,7 @@ module _ (before : Book) where
         many : (n : ℕ) → MOST_NAMES < n → nat_le n MOST_NAMES ≡ false
         many n h = grind (arith, nat_tests, h)
 
-  pub define_misspelled : (name : List ℕ) (area : Rectangle) → is_name name ≡ false → step before (Name name area) ≡ Err BadName
-  define_misspelled name area misspelled = ap (λ b. cond b (if_names_fit (record before { names = with_name before.names name area })) (Err BadName)) misspelled
-
   pub remove_step : (after : Book) (name : List ℕ) → is_defined before.names name ≡ true → after.cells ≡ before.cells → after.names ≡ without_name before.names name → step before (Unname name) ≡ Ok after
   remove_step after name there cells names =
       ap (λ b. cond b (Ok (record before { names = without_name before.names name })) (Err NoName)) there
       ∙ ap Ok (same_parts (record before { names = without_name before.names name }) after cells names)
-
-  pub remove_missing : (name : List ℕ) → is_defined before.names name ≡ false → step before (Unname name) ≡ Err NoName
-  remove_missing name missing = ap (λ b. cond b (Ok (record before { names = without_name before.names name })) (Err NoName)) missing
