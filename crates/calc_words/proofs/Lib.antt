@@ -1,0 +1,4 @@
+mod Calc
+mod Entries
+mod Examples
+mod Found
