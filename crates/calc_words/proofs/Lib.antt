@@ -1,3 +1,4 @@
+mod Asked
 mod Calc
 mod Entries
 mod Examples

@@ -1,6 +1,10 @@
 //! The words of the command `calc [--workers N] BOOK`.
 #![tactic(auto)]
 
+mod help;
+
+pub use help::{HELP, VERSION, answer};
+
 ghost use Rattle.calc_words.specs.Words.{calc_app, words_in, words_of};
 ghost use Rattle.calc_words.specs.Args.{HasArgs, HasValues};
 ghost use Rattle.clap.specs.Words.{app_of, fault_of, found_of, matches_of, rows_of};
