@@ -1,4 +1,4 @@
-//! `calc BOOK` calculates a book's cells by the script on standard input.
+//! `calc [--workers N] BOOK` calculates a book's cells by the script on standard input.
 #![tactic(auto)]
 
 use calc_cli::{BAD_WORDS, NO_MEMORY, message, run};

@@ -49,8 +49,10 @@ refused_by [] said some = absurd (some refl)
 refused_by (k ∷ ks) said some = refl
 
 pub refused_here : (words : List (List ℕ)) → fault_of calc_app words ≢ [] → None ≡ words_of words
+unfolding words_of
 refused_here words some = refused_by (fault_of calc_app words) (words_in (matches_of calc_app words)) some
 
 pub said_here : (words : List (List ℕ)) (rows : List Row) (said : CommandWords) → fault_of calc_app words ≡ []
     → rows ≡ matches_of calc_app words → words_in rows ≡ Some said → Some said ≡ words_of words
+unfolding words_of
 said_here words rows said none is says = sym (ap₂ unless_refused none (ap words_in (sym is) ∙ says))

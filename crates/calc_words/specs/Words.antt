@@ -43,5 +43,9 @@ unless_refused [] said = said
 unless_refused (fault ∷ faults) said = None
 
 -- what the words say, where clap doesn't refuse them
-abbrev pub words_of : List (List ℕ) → Option CommandWords
+unfoldable pub words_of : List (List ℕ) → Option CommandWords
 words_of words = unless_refused (fault_of calc_app words) (words_in (matches_of calc_app words))
+
+-- the book's name, where the words are of the command
+abbrev pub book_name : List (List ℕ) → Option (List ℕ)
+book_name words = option_map (λ said. said.book) (words_of words)

@@ -131,7 +131,7 @@ fn users_are_told_what_went_wrong(rt: HostRuntime) -> Result<(), Fail> {
     let told = [
         (0, ""),
         (1, ""),
-        (2, "usage: calc BOOK"),
+        (2, "usage: calc [--workers N] BOOK"),
         (3, "the book or the script can't be read"),
         (4, "the output can't be written"),
         (5, "out of memory"),

@@ -13,3 +13,6 @@ returns-in-Ok-clause-takes g c =
 
 pub returns-in-Err-Failed-clause-ends_somehow : goal.returns-in-Err-Failed-clause-ends_somehow
 returns-in-Err-Failed-clause-ends_somehow g c = disturbed (length c.args.stock.items) DESK_FAILED (g.K.Sink.written c.args.sink.now) (λ calm. calm.desk refl)
+
+pub returns-clause-ends_somehow : goal.returns-clause-ends_somehow
+returns-clause-ends_somehow g c = disturbed (length c.args.stock.items) NO_MEMORY (g.K.Sink.written c.args.sink.now) (λ calm. calm.memory refl)
