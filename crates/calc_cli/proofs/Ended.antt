@@ -19,7 +19,7 @@ use Rattle.calc_cli.specs.Output.{Session, has_refusal, output}
 use Rattle.calc_cli.specs.Inputs.{IsLoaded}
 use Rattle.calc_io.specs.Desk.{Books}
 use Rattle.calc_cli.specs.Runs.{Ends, EndsSomehow, GrowsWithin, IsUndisturbed, LeavesInputs, Serves, Tells}
-use Rattle.calc_cli.specs.Words.{book_name}
+use Rattle.calc_words.specs.Words.{book_name}
 use Rattle.calc_cli.proofs.TakenBytes.{longer, whole}
 
 pub too_long_ends : (old : Option (List ℕ)) → Ends SCRIPT_TOO_LONG old old too_long

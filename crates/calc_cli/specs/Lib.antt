@@ -1,4 +1,3 @@
-pub mod Words
 pub mod Records
 pub mod Output
 pub mod Ending

@@ -4,7 +4,7 @@ use Rattle.calc_cli.specs.declared.status.TheConstants.{BAD_WORDS, DESK_FAILED, 
 
 abbrev pub message_of : ℕ → List ℕ
 message_of status =
-    if status == BAD_WORDS then codes "usage: calc BOOK"
+    if status == BAD_WORDS then codes "usage: calc [--workers N] BOOK"
     else (if status == DESK_FAILED then codes "the book or the script can't be read"
     else (if status == SINK_FAILED then codes "the output can't be written"
     else (if status == NO_MEMORY then codes "out of memory"

@@ -10,7 +10,7 @@ use Rattle.calc_book.specs.declared.limits.TheConstants.{MOST_BYTES}
 use Rattle.calc_cli.specs.declared.status.TheConstants.{BOOK_REFUSED, DESK_FAILED, LINE_REFUSED, NO_MEMORY, SCRIPT_TOO_LONG, SINK_FAILED}
 use Rattle.calc_cli.specs.declared.limits.TheConstants.{MOST_SCRIPT_BYTES}
 use Rattle.calc_cli.specs.Ending.{Ending, ending}
-use Rattle.calc_cli.specs.Words.{book_name}
+use Rattle.calc_words.specs.Words.{book_name}
 
 -- The desk tells the book of that name, and its script.
 pub record Tells (books : Option Books) (script_left : Option (List ℕ)) (name book script : List ℕ) : Type 0 where

@@ -5,16 +5,16 @@ ghost use Rattle.calc_io.specs.Desk.{told_book, IsUnknown};
 ghost use Rattle.calc_model.specs.OverFields.{OverFields};
 ghost use Rattle.calc_cli.specs.Ending.{ending};
 ghost use Rattle.calc_cli.specs.Runs.{CountsFaults, Ends, EndsSomehow, Serves, TakesInputs, TakesWhole, Tells};
-ghost use Rattle.calc_cli.specs.Words.{book_name};
+ghost use Rattle.calc_words.specs.Words.{book_name, words_of};
 ghost use Rattle.formula_reader.specs.Fields.{field_of};
 
 use crate::end::finish;
 use crate::inputs::read_inputs;
 use crate::status::{BAD_WORDS, DESK_FAILED, NO_MEMORY, SINK_FAILED};
-use crate::words::book_name;
 use calc_io::{Desk, DeviceFault, Sink};
 use calc_model::Text;
 use calc_watch::Watcher;
+use calc_words::read_words;
 use std::alloc::Global;
 use std::thread::Threads;
 
@@ -34,8 +34,8 @@ pub fn run<R: Threads + Sync, D: Desk, K: Sink, W: Watcher>(
     stock: Vec<W>,
 ) -> u8
     requires stock { All (λ w. W.told w ≡ []) stock.items }
-    ensures words { result ≡ BAD_WORDS ↔ book_name words.now ≡ None }
-    ensures untouched { result ≡ BAD_WORDS → (desk.new ≡ desk.old) × (sink.new ≡ sink.old) }
+    ensures words { result ≢ NO_MEMORY → (result ≡ BAD_WORDS ↔ words_of words.now ≡ None) }
+    ensures untouched { words_of words.now ≡ None → (desk.new ≡ desk.old) × (sink.new ≡ sink.old) }
     ensures ends { OverFields (λ field. (book script : List ℕ)
         → Serves (D.books desk.old) (D.script_left desk.old) words.now book script
         → Ends result (K.written sink.old) (K.written sink.new)
@@ -48,7 +48,7 @@ pub fn run<R: Threads + Sync, D: Desk, K: Sink, W: Watcher>(
         → TakesInputs result book script
         (D.book_left desk.old) (D.book_left desk.new) (D.script_left desk.new) }
     ensures unknown { (name : List ℕ) → book_name words.now ≡ Some name
-        → IsUnknown (D.books desk.old) name → (result ≡ DESK_FAILED)
+        → IsUnknown (D.books desk.old) name → (result ≢ NO_MEMORY → result ≡ DESK_FAILED)
         × Keeps (D.book_left desk.old) (D.book_left desk.new)
         × Keeps (D.script_left desk.old) (D.script_left desk.new) }
 
@@ -63,9 +63,10 @@ pub fn run<R: Threads + Sync, D: Desk, K: Sink, W: Watcher>(
         (length (ending field (length stock.items) book script).written)
         (K.faults sink.old) (K.faults sink.new)) }
 {
-    match book_name(words) {
-        Some(name) => run_book(rt, alloc, name, desk, sink, stock),
-        None => BAD_WORDS,
+    match read_words(alloc, words) {
+        Ok(Some(said)) => run_book(rt, alloc, &said.book, desk, sink, stock),
+        Ok(None) => BAD_WORDS,
+        Err(_) => NO_MEMORY,
     }
 }
 

@@ -12,7 +12,6 @@ mod records;
 mod replies;
 mod session;
 mod status;
-mod words;
 mod written;
 
 pub use command::run;

@@ -31,7 +31,7 @@ pub fn message(status: u8) -> &'static str
     ensures { result.now ≡ message_of status }
 {
     match status {
-        BAD_WORDS => "usage: calc BOOK",
+        BAD_WORDS => "usage: calc [--workers N] BOOK",
         DESK_FAILED => "the book or the script can't be read",
         SINK_FAILED => "the output can't be written",
         NO_MEMORY => "out of memory",

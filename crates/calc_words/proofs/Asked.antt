@@ -1,5 +1,5 @@
 -- Words that ask for help are not of the command.
-use Rattle.std.proofs.Common.{◌≡◌, ◌∙◌, ◌⊎◌, inl, inr, ◌≤◌, ◌<◌, ℕ, List, [], ◌∷◌, length, codes, None, refl, ap, subst, sym, arith}
+use Rattle.std.proofs.Common.{◌≡◌, ◌∙◌, ◌⊎◌, inl, inr, ◌≤◌, ◌<◌, ℕ, List, [], ◌∷◌, length, codes, None, refl, ap, sym, arith}
 use Rattle.std.specs.Prelude.{get_or}
 use Rattle.clap.proofs.OnLiterals.{clap_on_literals}
 use Rattle.calc_words.specs.Words.{calc_app, words_of}

@@ -3,8 +3,6 @@
 
 mod help;
 
-pub use help::{HELP, VERSION, answer};
-
 ghost use Rattle.calc_words.specs.Words.{calc_app, words_in, words_of};
 ghost use Rattle.calc_words.specs.Args.{HasArgs, HasValues};
 ghost use Rattle.clap.specs.Words.{app_of, fault_of, found_of, matches_of, rows_of};
@@ -14,6 +12,7 @@ use calc_addr::NoMemory;
 use calc_model::Text;
 use clap::error::ErrorKind;
 use clap::{Arg, ArgAction, ArgMatches, Command, value_parser};
+pub use help::{HELP, VERSION, answer};
 use std::alloc::{AllocError, Global};
 use std::marker::Model;
 

@@ -2,8 +2,8 @@
 use crate::runs::{books, bytes, outcome, text, words};
 use calc_cli::{message, run};
 use calc_io::{MemoryDesk, MemorySink, PipeDesk, PipeSink, SteadyDesk, SteadySink};
-use calc_model::Text;
 use calc_watch::pads;
+use calc_words::{HELP, VERSION, answer};
 use std::alloc::{AllocError, Global};
 use std::test::Fail;
 use std::thread::Threads;
@@ -35,21 +35,52 @@ fn a_missing_book_ends_with_3(rt: HostRuntime) -> Result<(), Fail> {
     Ok(())
 }
 
+/// Words, each with a space in front, and the status of a run by them.
+const WORDS: [(&str, u8); 11] = [
+    (" book", 0),
+    (" --workers 1 book", 0),
+    (" book --workers 4", 0),
+    (" --workers=64 book", 0),
+    (" --workers 65 book", 2),
+    (" --workers 0 book", 2),
+    (" --workers book", 2),
+    (" -book", 2),
+    (" --help", 2),
+    (" book book", 2),
+    ("", 2),
+];
+
 #[test]
-fn bad_words_end_with_2(rt: HostRuntime) -> Result<(), Fail> {
+fn words_decide_whether_a_run_begins(rt: HostRuntime) -> Result<(), Fail> {
     let alloc = rt.alloc();
-    let option = vec![in alloc; text(alloc, "-book")?]?;
-    let two = vec![in alloc; text(alloc, "book")?, text(alloc, "book")?]?;
-    let none: Vec<Text> = Vec::new(alloc);
-    for words in [option, two, none] {
+    for (line, status) in WORDS {
+        let mut words = Vec::new(alloc);
+        for word in line.split(' ').skip(1) {
+            words.push(text(alloc, word)?)?;
+        }
         let mut desk = SteadyDesk::new(books(alloc, bytes(alloc, BOOK)?)?, bytes(alloc, SCRIPT)?);
         let mut sink = SteadySink::new(alloc, 64)?;
-        assert_eq!(rt;
-            run(&rt, alloc, &words, &mut desk, &mut sink, pads(alloc, 0)?),
-            2
-        );
-        assert_eq!(rt; sink.written(), b"".as_slice());
+        let ended = run(&rt, alloc, &words, &mut desk, &mut sink, pads(alloc, 0)?);
+        assert_eq!(rt; ended, status, "{line}");
+        let written = if status == 0 { OUTPUT } else { "" };
+        assert_eq!(rt; sink.written(), written.as_bytes(), "{line}");
     }
+    Ok(())
+}
+
+#[test]
+fn help_and_version_are_answered(rt: HostRuntime) -> Result<(), Fail> {
+    let alloc = rt.alloc();
+    let asked = [
+        ("--help", HELP),
+        ("-h", HELP),
+        ("--version", VERSION),
+        ("-V", VERSION),
+    ];
+    for (word, told) in asked {
+        assert_eq!(rt; answer(&[text(alloc, word)?]), Some(told), "{word}");
+    }
+    assert_eq!(rt; answer(&words(alloc)?), None);
     Ok(())
 }
 
@@ -151,7 +182,7 @@ fn users_are_told_what_went_wrong(rt: HostRuntime) -> Result<(), Fail> {
     let told = [
         (0, ""),
         (1, ""),
-        (2, "usage: calc BOOK"),
+        (2, "usage: calc [--workers N] BOOK"),
         (3, "the book or the script can't be read"),
         (4, "the output can't be written"),
         (5, "out of memory"),
