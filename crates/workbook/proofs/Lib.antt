@@ -14,3 +14,13 @@ pub mod Staleness
 pub mod RowChanges
 -- what edits of names leave
 pub mod NameChanges
+-- what formulas give by other names
+pub mod EvalNames
+-- what cells show that reach nothing that changed
+pub mod Unreached
+-- what formulas show that don't become stale
+pub mod Fresh
+-- what each edit leaves
+pub mod Leavings
+-- that every edit leaves the cells that it doesn't touch
+pub mod EditsLeave

@@ -155,7 +155,7 @@ pub nothing_outside : (book : Book) → IsBook book → (q : Place) → is_place
 unfolding content_at
 nothing_outside book is q out = ap (λ o. unwrap_or o Empty) (found_place q book.cells is.cells_held out)
 
-above_rows : (sheet place : ℕ) (q : Place) → is_place q ≡ true → covers (rows_from sheet place) q ≡ false → is_from_row sheet place q ≡ false
+pub above_rows : (sheet place : ℕ) (q : Place) → is_place q ≡ true → covers (rows_from sheet place) q ≡ false → is_from_row sheet place q ≡ false
 above_rows sheet place q is out = grind (arith, nat_tests)
 
 -- a content whose formula stays is the content
@@ -235,14 +235,14 @@ module _ (before after : Book) (sheet place count : ℕ) (was : IsBook before) (
         | inr out ↦ nothing_outside after is q out ∙ sym (nothing_outside before was q out)
       ]
 
-formula_place : (book : Book) → IsBook book → (q : Place) → is_formula_cell book q ≡ true → is_place q ≡ true
+pub formula_place : (book : Book) → IsBook book → (q : Place) → is_formula_cell book q ≡ true → is_place q ≡ true
 formula_place book is q formula =
     elim (place_or_not q) [
       | inl valid ↦ valid
       | inr out ↦ let none : is_formula_cell book q ≡ false = ap is_formula (nothing_outside book is q out) in cc
     ]
 
-origin_inserted : (sheet place count : ℕ) (q : Place) → is_from_row sheet place q ≡ false → origin (InsertRows sheet place count) q ≡ Some q
+pub origin_inserted : (sheet place count : ℕ) (q : Place) → is_from_row sheet place q ≡ false → origin (InsertRows sheet place count) q ≡ Some q
 origin_inserted sheet place count q above =
     ap (λ b. cond b (Some (record q { row = q.row - count })) (cond (is_from_row sheet place q) None (Some q))) (further sheet place count q above)
     ∙ ap (λ b. cond b None (Some q)) above
@@ -250,13 +250,17 @@ origin_inserted sheet place count q above =
     further : (sheet place count : ℕ) (q : Place) → is_from_row sheet place q ≡ false → is_from_row sheet (place + count) q ≡ false
     further sheet place count q above = grind (arith, nat_tests)
 
-origin_deleted : (sheet place count : ℕ) (q : Place) → is_from_row sheet place q ≡ false → origin (DeleteRows sheet place count) q ≡ Some q
+pub origin_deleted : (sheet place count : ℕ) (q : Place) → is_from_row sheet place q ≡ false → origin (DeleteRows sheet place count) q ≡ Some q
 origin_deleted sheet place count q above = ap (λ b. cond b (Some (record q { row = q.row + count })) (Some q)) above
 
 -- what follows from two facts on success
 pub on_ok_both : {T E : Type 0} {P Q R : Type 0} (result : Result T E) → (P → Q → R) → OnOk result P → OnOk result Q → OnOk result R
 on_ok_both (Ok x) f p q = f p q
 on_ok_both (Err e) f p q = tt
+
+pub on_ok_so : {T E : Type 0} {P : Type 0} (result : Result T E) → P → OnOk result P
+on_ok_so (Ok x) p = p
+on_ok_so (Err e) p = tt
 
 -- a formula reads by other names what it reads by the first, where its tree does
 names_read : (home : Place) (first second : Names) (content : Content) → ((tree : Tree) → content ≡ Formula tree → areas home second tree ≡ areas home first tree) → content_areas home second content ≡ content_areas home first content

@@ -1,10 +1,10 @@
 -- A workbook: its book, the results of the last recalculation, the cells that edits touched since then, and whether it
 -- is dead. A formula that reaches a touched cell is stale.
-use Rattle.std.specs.Prelude.{◌≡◌, ◌&&◌, Bool, true, List, Ok, Err}
+use Rattle.std.specs.Prelude.{◌≡◌, ◌&&◌, Bool, true, false, ⊤, List, Ok, Err}
 use Rattle.calc_addr.specs.Places.{Place}
 use Rattle.calc_model.specs.declared.value.Value.{Value}
 use Rattle.calc_model.specs.declared.edit.Edit.{Edit}
-use Rattle.calc_model.specs.declared.edit.Edit.TheVariants.{Set, Clear}
+use Rattle.calc_model.specs.declared.edit.Edit.TheVariants.{Set, Clear, InsertRows, DeleteRows}
 use Rattle.calc_model.specs.declared.edit.EditCause.{EditCause}
 use Rattle.calc_model.specs.Books.{Book, IsBook}
 use Rattle.calc_model.specs.Results.{shown_by}
@@ -12,6 +12,7 @@ use Rattle.calc_model.specs.Scalars.{CellValues}
 use Rattle.calc_model.specs.Step.{step}
 use Rattle.calc_model.specs.Stale.{is_formula_cell, reaches, stale_after}
 use Rattle.calc_model.specs.Touched.{CellSet}
+use Rattle.calc_model.specs.Val.{val}
 use Rattle.cell_map.specs.ResultMap.{results_of}
 use Rattle.workbook.specs.Touched.{Parts, is_touched}
 
@@ -33,12 +34,23 @@ values_of state = shown_by state.book (results_of state.results)
 abbrev pub Stales : State → Edit → State → Type 0
 Stales before edit after = (q : Place) → stale_of after q ≡ stale_after before.book edit after.book (stale_of before) q
 
--- the edit was made
+-- each formula that isn't stale shows its value in the book, and so do the cells without a formula
+abbrev pub IsFresh : State → Type 0
+IsFresh state = (q : Place) → stale_of state q ≡ false → values_of state q ≡ val state.book q
+
+-- the edit was made, and the results of the last recalculation stay
 pub record Made (before : State) (edit : Edit) (after : State) : Type 0 where
   pub step : step before.book edit ≡ Ok after.book
   pub book : IsBook after.book
   pub stale : Stales before edit after
   pub alive : after.dead ≡ before.dead
+  pub results : after.results ≡ before.results
+
+-- rows come and go in what is a book
+abbrev pub WasBook : Book → Edit → Type 0
+WasBook before (InsertRows sheet place count) = IsBook before
+WasBook before (DeleteRows sheet place count) = IsBook before
+WasBook before _ = ⊤
 
 -- the edit is refused, and the workbook is as before
 pub record IsRefused (before : State) (edit : Edit) (cause : EditCause) (after : State) : Type 0 where

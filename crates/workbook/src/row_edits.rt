@@ -2,6 +2,7 @@
 ghost use Rattle.std.specs.Prelude.{◌≡◌, ◌≤◌, ◌||◌, false, true, IsErrOf, OnOk};
 ghost use Rattle.std.specs.List.{list_any};
 ghost use Rattle.calc_addr.specs.Places.{Place, covers};
+ghost use Rattle.calc_model.specs.Books.{IsBook};
 ghost use Rattle.calc_model.specs.Reads.{reads};
 ghost use Rattle.calc_model.specs.Changes.{IsChange};
 ghost use Rattle.calc_model.specs.RowEdits.{are_rows, has_rows_of, is_pushed_out};
@@ -30,6 +31,7 @@ impl Workbook {
         ensures done { OnOk result (Made self.old (Edit.InsertRows sheet place count) self.new) }
         ensures refused { (cause : EditCause) → IsErrOf result (EditFault.Refused cause) →
             IsRefused self.old (Edit.InsertRows sheet place count) cause self.new }
+        ensures was_book { OnOk result (IsBook self.old.book) }
         ensures no_memory { IsErrOf result EditFault.NoMemory → self.new.dead ≡ true }
         ensures not_dead { IsErrOf result EditFault.Dead → ⊥ }
     {
@@ -54,7 +56,8 @@ impl Workbook {
     ) -> Result<(), NoMemory>
         requires rows { are_rows sheet place count ≡ true }
         requires inside { is_pushed_out sheet place count self.old.book.cells ≡ false }
-        ensures { OnOk result (Made self.old (Edit.InsertRows sheet place count) self.new) }
+        ensures done { OnOk result (Made self.old (Edit.InsertRows sheet place count) self.new) }
+        ensures was_book { OnOk result (IsBook self.old.book) }
     {
         let change = Change::Inserted {
             sheet,
@@ -75,6 +78,7 @@ impl Workbook {
         ensures done { OnOk result (Made self.old (Edit.DeleteRows sheet place count) self.new) }
         ensures refused { (cause : EditCause) → IsErrOf result (EditFault.Refused cause) →
             IsRefused self.old (Edit.DeleteRows sheet place count) cause self.new }
+        ensures was_book { OnOk result (IsBook self.old.book) }
         ensures no_memory { IsErrOf result EditFault.NoMemory → self.new.dead ≡ true }
         ensures not_dead { IsErrOf result EditFault.Dead → ⊥ }
     {
@@ -95,7 +99,8 @@ impl Workbook {
         count: u32,
     ) -> Result<(), NoMemory>
         requires rows { are_rows sheet place count ≡ true }
-        ensures { OnOk result (Made self.old (Edit.DeleteRows sheet place count) self.new) }
+        ensures done { OnOk result (Made self.old (Edit.DeleteRows sheet place count) self.new) }
+        ensures was_book { OnOk result (IsBook self.old.book) }
     {
         let change = Change::Deleted {
             sheet,

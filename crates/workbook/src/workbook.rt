@@ -10,7 +10,7 @@ ghost use Rattle.calc_model.specs.ValueTexts.{lent};
 ghost use Rattle.cell_map.specs.ShownCells.{shown_values};
 ghost use Rattle.calc_model.specs.declared.edit.EditCause.{EditCause};
 ghost use Rattle.workbook.specs.Touched.{contains_cell};
-ghost use Rattle.workbook.specs.Workbook.{AfterNoMemory, IsRefused, Made, stale_of, values_of};
+ghost use Rattle.workbook.specs.Workbook.{AfterNoMemory, IsFresh, IsRefused, Made, WasBook, stale_of, values_of};
 
 use crate::fault::EditFault;
 use crate::reach::reached;
@@ -67,6 +67,7 @@ impl Workbook {
         ensures cells { result.book.cells ≡ [] }
         ensures names { result.book.names ≡ [] }
         ensures stale { (q : Place) → stale_of result q ≡ false }
+        ensures fresh { IsFresh result }
         ensures alive { result.dead ≡ false }
     {
         Workbook {
@@ -81,6 +82,7 @@ impl Workbook {
     pub fn load(alloc: Global, cells: CellMap) -> Workbook
         ensures book { result.book ≡ cells }
         ensures stale { (q : Place) → stale_of result q ≡ is_formula_cell cells q }
+        ensures fresh { IsFresh result }
         ensures alive { result.dead ≡ false }
     {
         Workbook {
@@ -126,10 +128,26 @@ impl Workbook {
         ensures kept { self.old.dead ≡ true → self.new ≡ self.old }
         ensures no_memory { IsErrOf result EditFault.NoMemory →
             AfterNoMemory self.old edit.now self.new }
+        ensures fresh { IsFresh self.old → OnOk result (IsFresh self.new) }
     {
         if self.dead {
             return Err(EditFault::Dead);
         }
+        self.make(alloc, edit)
+    }
+
+    /// Makes an edit of a workbook that isn't dead.
+    fn make(&mut self, alloc: Global, edit: &Edit) -> Result<(), EditFault>
+        requires makeable { is_makeable edit.now ≡ true }
+        requires alive { self.old.dead ≡ false }
+        ensures done { OnOk result (Made self.old edit.now self.new) }
+        ensures refused { (cause : EditCause) → IsErrOf result (EditFault.Refused cause) →
+            IsRefused self.old edit.now cause self.new }
+        ensures not_dead { IsErrOf result EditFault.Dead → ⊥ }
+        ensures no_memory { IsErrOf result EditFault.NoMemory →
+            AfterNoMemory self.old edit.now self.new }
+        ensures was_book { OnOk result (WasBook self.old.book edit.now) }
+    {
         match edit {
             Edit::Set { cell, content } => self.set(alloc, *cell, content),
             Edit::Clear { area } => self.clear(*area),
@@ -228,6 +246,7 @@ impl Workbook {
             done.stale ≡ count_in self.old.book (stale_of self.old)) }
         ensures values { OnOk result ((q : Place) → values_of self.new q ≡ val self.new.book q) }
         ensures stale { OnOk result ((q : Place) → stale_of self.new q ≡ false) }
+        ensures fresh { OnOk result (IsFresh self.new) }
         ensures book { self.new.book ≡ self.old.book }
         ensures alive { self.new.dead ≡ self.old.dead }
         ensures kept { OnErr result (self.new ≡ self.old) }
@@ -241,7 +260,9 @@ impl Workbook {
     /// What the cell shows. It takes the logarithm of the cells.
     #[tactic(auto, unfolding(crate::specs::Workbook::values_of))]
     pub fn value(&self, cell: Cell) -> Seen<'_>
-        ensures { lent result ≡ values_of self.now cell }
+        ensures value { lent result ≡ values_of self.now cell }
+        ensures fresh { IsFresh self.now → stale_of self.now cell ≡ false
+            → lent result ≡ val self.now.book cell }
     {
         shown(&self.cells, &self.results, cell)
     }
@@ -249,7 +270,9 @@ impl Workbook {
     /// What all cells show.
     #[tactic(auto, unfolding(crate::specs::Workbook::values_of))]
     pub fn values(&self) -> ShownCells<'_>
-        ensures { shown_values result ≡ values_of self.now }
+        ensures values { shown_values result ≡ values_of self.now }
+        ensures fresh { IsFresh self.now → ((q : Place) → stale_of self.now q ≡ false)
+            → (q : Place) → shown_values result q ≡ val self.now.book q }
     {
         ShownCells::of(&self.cells, &self.results)
     }

@@ -16,4 +16,5 @@ returns-in-Ok-clause-done c =
       book = c.clear.ensures.book;
       stale = stale_more before after (covers c.args.area) c.clear.ensures.names (clear_leaves before.book after.book c.args.area c.clear.ensures.cells) c.add_area.ensures.names c.in-Ok.ensures.touched;
       alive = refl;
+      results = refl;
     })

@@ -22,6 +22,7 @@ returns-in-Ok-add_name-clause-done c =
       book = c.in-Ok.ensures.book;
       stale = defined_stale before after name area c.in-Ok.ensures.cells c.in-Ok.ensures.names c.add_name.ensures.cells c.in-Ok-add_name.ensures.names;
       alive = refl;
+      results = refl;
     })
 
 pub returns-in-Err-Full-clause-refused : goal.returns-in-Err-Full-clause-refused

@@ -14,4 +14,5 @@ returns-in-Ok-clause-done c =
       book = c.in-Ok.ensures.is;
       stale = generated_stale before after c.args.start c.args.rows c.all.ensures.cells;
       alive = refl;
+      results = refl;
     })

@@ -25,5 +25,6 @@ returns c =
       book = c.copy.ensures.book;
       stale = stale_more before after (covers (area_at area to)) c.copy.ensures.names (copy_leaves before.book after.book area to cells) c.add_area.ensures.names touches;
       alive = refl;
+      results = refl;
     }))
     c.copy.ensures.cells

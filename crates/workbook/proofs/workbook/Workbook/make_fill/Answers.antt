@@ -23,5 +23,6 @@ returns c =
       book = c.fill.ensures.book;
       stale = stale_more before after (covers area) c.fill.ensures.names (fill_leaves before.book after.book from (content_at before.book from) area cells) c.add_area.ensures.names c.in_ok-add_area.ensures.touched;
       alive = refl;
+      results = refl;
     }))
     c.fill.ensures.cells

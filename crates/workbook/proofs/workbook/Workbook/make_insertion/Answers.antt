@@ -6,12 +6,12 @@ use Rattle.calc_model.specs.RowEdits.{cells_after_insertion, is_changed_by_inser
 use Rattle.calc_model.specs.Touched.{reads_any, rows_from}
 use Rattle.workbook.specs.Touched.{Parts, lies_in}
 use Rattle.workbook.specs.Workbook.{State}
-use Rattle.workbook.proofs.RowChanges.{insertion_stale, on_ok_both}
+use Rattle.workbook.proofs.RowChanges.{insertion_stale, on_ok_both, on_ok_so}
 use Rattle.workbook.proofs.Steps.{insert_step}
 use Rattle.workbook.proofs.workbook.Workbook.make_insertion.Goals as goal
 
-pub returns : goal.returns
-returns c =
+pub returns-clause-done : goal.returns-clause-done
+returns-clause-done c =
     let sheet = c.args.sheet in
     let place = c.args.place in
     let count = c.args.count in
@@ -31,5 +31,12 @@ returns c =
       book = c.insert_rows.ensures.book;
       stale = insertion_stale before after sheet place count was c.insert_rows.ensures.book touched cells named joined;
       alive = ap (λ (state : State). state.dead) c.self.view_is ∙ c.in_ok-touch_rows.ensures.alive;
+      results = ap (λ (state : State). state.results) c.self.view_is ∙ c.in_ok-touch_rows.ensures.results;
     })
     c.insert_rows.ensures.cells c.insert_rows.ensures.names
+
+pub returns-clause-was_book : goal.returns-clause-was_book
+returns-clause-was_book c =
+    let before : State = c.args.self.now in
+    let book : c.self.inside.cells ≡ before.book = ap (λ (state : State). state.book) c.self.view_is ∙ c.in_ok-touch_rows.ensures.book in
+    on_ok_so c.insert_rows.result (subst IsBook book c.insert_rows.ensures.was_book)

@@ -1,5 +1,9 @@
+use Rattle.workbook.proofs.Fresh.{fresh_unwritten}
 use Rattle.workbook.proofs.Staleness.{none_stale}
 use Rattle.workbook.proofs.workbook.Workbook.new.Goals as goal
 
 pub returns-clause-stale : goal.returns-clause-stale
 returns-clause-stale c = none_stale _ c.none.ensures.cells c.none.ensures.names
+
+pub returns-clause-fresh : goal.returns-clause-fresh
+returns-clause-fresh c = fresh_unwritten _ c.new.ensures.cells

@@ -24,6 +24,7 @@ returns-in-Ok-clause-done c =
       stale = stale_more before after (eq_by_cmp place_cmp c.args.cell) c.set.ensures.names
           (set_leaves before.book after.book c.args.cell c.args.content.now cells) (ap (λ (parts : Parts). parts.names) c.in_ok-added.ensures.parts) c.in_ok-added.ensures.touched;
       alive = refl;
+      results = refl;
     })
 
 pub returns-then-added-clause-kept : goal.returns-then-added-clause-kept

@@ -1,0 +1,8 @@
+use Rattle.std.proofs.Common.{ap, ◌∙◌}
+use Rattle.calc_model.specs.Scalars.{CellValues}
+use Rattle.workbook.specs.Workbook.{State, values_of}
+use Rattle.workbook.proofs.workbook.Workbook.values.Goals as goal
+
+pub returns-clause-fresh : goal.returns-clause-fresh
+unfolding values_of
+returns-clause-fresh c = λ fresh none q. ap (λ (values : CellValues). values q) c.of.ensures ∙ ap (λ (state : State). values_of state q) c.self.view_is ∙ fresh q (none q)
