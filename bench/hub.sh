@@ -2,22 +2,24 @@
 # Times calls on a hub of listener_hub, which knows runs of formulas, against a C program that keeps for each cell a
 # growing list of the cells that read it, in the same run.
 #
-# bench/hub/hub.c is the C. gcc builds it, and clang where it is on the path or in the toolchain that runs `rt`; of their
-# times the least counts. bench/hub/program has the Rattle side: its files end in `.rattle`, since an `.rt` or `.antt`
-# file belongs to a crate of crates.txt, and become those of a crate in a repository of their own beside copies of the
-# crates that it stands on.
+# bench/hub/hub.c is the C. gcc builds it, and clang where it is on the path or in the toolchain that runs `rt`; of
+# their times the least counts. bench/hub/program has the Rattle side: its files end in `.rattle`, since an `.rt` or
+# `.antt` file belongs to a crate of crates.txt, and become those of a crate in a repository of their own beside copies
+# of the crates that it stands on.
 #
 # The calls: three runs of 100,000 rows are attached (`=[.A1]*2` in B, a chain `=[.C1]+[.B2]` in C, `=SUM([.A1:.A8])` in
 # D); the readers are asked of a cell that has nine, of one that has one, and of each cell of the chain; the parts are
 # asked of the three runs, and a row is inserted in their midst. Beside the runs 10,000 formulas of one cell each are
-# attached and detached; alone they see a row inserted at the top. Last 5,000 and 10,000 formulas of one cell each that
-# all read one cell are attached and detached one by one: what a detached one takes grows with their number, so that the
-# whole is quadratic, and 100,000 of them would take a hundred times what 10,000 take. It is so in C too. For its parts
-# the C keeps a sorted table of runs; the readers that it gives have no order, and those of a hub are in that of cells.
+# attached and detached; alone they see a row inserted at the top. Last, 5,000 and 10,000 formulas of one cell each that
+# all read one cell are attached and detached one by one: what one takes to detach grows with their number, so the whole
+# is quadratic, and 100,000 of them would take a hundred times what 10,000 take. It is so in the C too.
 #
-# Prints a line a call: its name, the nanoseconds of one, of calc and of C, and the ratio of the two. All programs give
-# checksums of who reads which cell, and the script fails where two differ. It takes some minutes, most of them for
-# proofs from nothing.
+# The C writes an entry for each cell that each formula reads, so attaching a run and inserting a row take it long, and
+# it gives readers in no order, where a hub sorts them. Its parts stand ready in a table of three runs.
+#
+# Prints a line a call: its name, the nanoseconds of one, of calc and of C, and the ratio of the two. `parts` is the
+# three runs together. All programs give checksums, all but that of the parts over who reads which cell, and the script
+# fails where two differ. It takes some minutes, most of them for proofs from nothing.
 set -euo pipefail
 
 top="$(cd "$(dirname "$0")/.." && pwd)"

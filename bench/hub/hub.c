@@ -1,6 +1,7 @@
-/* Readers as plain as can be: for each cell of each column a growing list of the cells that read it, and for each column
- * the runs of formulas with one relative form. A line a call: its name, how often it was made, the nanoseconds of all,
- * and a checksum.
+/* Readers as plain as can be: for each cell of each column a growing list of the cells that read it. Beside them stands
+ * for each column a sorted table of its runs of formulas with one relative form, which the parts are read from;
+ * formulas of one cell, of whose parts nothing is asked, aren't in it. A line a call: its name, how often it was made,
+ * the nanoseconds of all, and a checksum.
  *
  * An entry is a cell, and whether it reads an area: where a row comes between two rows that an area has, the area has
  * that row too. */
@@ -86,7 +87,8 @@ static uint32_t run_at(const Hub *hub, uint32_t col, uint32_t row) {
 }
 
 /* Each row of a run reads so many rows of a column, from the one that lies so far below it on. */
-CALL void attach(Hub *hub, uint32_t col, uint32_t first, uint32_t last, uint32_t from_col, int32_t below, uint32_t rows) {
+CALL void attach(Hub *hub, uint32_t col, uint32_t first, uint32_t last, uint32_t from_col, int32_t below,
+                 uint32_t rows) {
     for (uint32_t row = first; row <= last; row++)
         for (uint32_t k = 0; k < rows; k++)
             push(&hub->lists[from_col][row + below + k], place(col, row) | (rows > 1 ? WIDE : 0));
@@ -95,9 +97,6 @@ CALL void attach(Hub *hub, uint32_t col, uint32_t first, uint32_t last, uint32_t
 /* Takes out a formula of one cell that reads one cell. */
 CALL void detach(Hub *hub, uint32_t col, uint32_t row, uint32_t from_col, uint32_t from) {
     take(&hub->lists[from_col][from], place(col, row));
-    uint32_t at = run_at(hub, col, row);
-    hub->count[col]--;
-    memmove(hub->runs[col] + at, hub->runs[col] + at + 1, (hub->count[col] - at) * sizeof(Run));
 }
 
 CALL uint32_t readers(const Hub *hub, uint32_t col, uint32_t row, uint32_t *out) {
@@ -253,7 +252,6 @@ static void attach_scattered(Hub *hub) {
     for (uint32_t turn = 0; turn < 10000; turn++) {
         uint32_t row = 10 * turn + 1, from = turn * 7919 % 100000 + 1;
         attach(hub, 6, row, row, 1, (int32_t)(from - row), 1);
-        run_push(hub, 6, row, row, 1);
     }
 }
 
@@ -285,10 +283,8 @@ static void fan(uint32_t count) {
     char name[32];
     Hub *hub = hub_new();
     uint64_t start = now();
-    for (uint32_t row = 1; row <= count; row++) {
+    for (uint32_t row = 1; row <= count; row++)
         attach(hub, 6, row, row, 1, 1 - (int32_t)row, 1);
-        run_push(hub, 6, row, row, 1);
-    }
     uint64_t end = now();
     snprintf(name, sizeof name, "fan_attach_%u", count);
     tell(name, count, start, end, checksum(hub));
