@@ -5,7 +5,7 @@ ghost use Rattle.calc_model.specs.Listeners.{AreReaders, Gets};
 ghost use Rattle.ears.specs.RowEdits.{IsRowEdit};
 ghost use Rattle.ears.specs.RunAreas.{LieInSheet};
 ghost use Rattle.listener_hub.specs.Changes.{IsPut, IsSlabOf};
-ghost use Rattle.listener_hub.specs.Hubs.{areas_read};
+ghost use Rattle.listener_hub.specs.Hubs.{areas_read, registration_count};
 ghost use Rattle.listener_hub.specs.Moves.{IsMoved, KeepsAll, deletion, insertion};
 ghost use Rattle.listener_hub.specs.Slab.{areas_at, areas_of, is_in, steps_of};
 
@@ -68,6 +68,17 @@ impl Hub {
     {
         self.slab = empty(self.slab.alloc);
         self.spent = true;
+    }
+
+    /// How many runs are registered. Linear in the most that there were at a time. It serves tests alone.
+    pub fn registrations(&self) -> usize
+        ensures { result ≡ registration_count self.now }
+    {
+        self.slab
+            .registrations
+            .iter()
+            .filter(|place| place.is_some())
+            .count()
     }
 
     /// Adds the cells of a run, none of which is there, with the areas that they read: the ears are
