@@ -1,10 +1,12 @@
 -- The values of neighbouring rows of one kind.
-use Rattle.std.specs.Prelude.{◌≡◌, ◌≤◌, ◌+◌, ℕ, List, [], ◌++◌, map, length, replicate, Option, MatchOption}
+use Rattle.std.specs.Prelude.{◌≡◌, ◌≢◌, ◌<◌, ◌≤◌, pos, false, slice_index_or, ◌+◌, ℕ, List, [], ◌++◌, map, length, replicate, Option, MatchOption}
 use Rattle.std.specs.List.{range_with_len}
 use Rattle.calc_model.specs.declared.value.Value.{Value}
 use Rattle.calc_model.specs.declared.value.Value.TheVariants as value
 use Rattle.value_column.specs.declared.lanes.Lanes.{Lanes}
-use Rattle.value_column.specs.Rows.{value_at}
+use Rattle.value_column.specs.declared.lane.Tag.{Tag}
+use Rattle.value_column.specs.declared.lane.Tag.TheVariants as tag
+use Rattle.value_column.specs.Rows.{is_small, value_at}
 use Rattle.value_column.specs.declared.span.ValueSpan.{ValueSpan}
 use Rattle.value_column.specs.declared.span.ValueSpan.TheVariants.{Small, Wide, Words, Faults, Blank}
 
@@ -22,18 +24,23 @@ span_first (Words first items) = first
 span_first (Faults first items) = first
 span_first (Blank first count) = first
 
--- the place of a span's kind among the kinds
-abbrev pub span_kind : ValueSpan → ℕ
-span_kind (Small first items) = 0
-span_kind (Wide first items) = 1
-span_kind (Words first items) = 2
-span_kind (Faults first items) = 3
-span_kind (Blank first count) = 4
+abbrev pub span_kind : ValueSpan → Tag
+span_kind (Small first items) = tag.Small
+span_kind (Wide first items) = tag.Wide
+span_kind (Words first items) = tag.Words
+span_kind (Faults first items) = tag.Bad
+span_kind (Blank first count) = tag.Blank
 
--- the rows that are still to come: the number of the first, and the values
+-- a number of a wide span doesn't fit in 64 bits, as each of a small span does by its type
+abbrev pub AreWide : ValueSpan → Type 0
+AreWide (Wide first items) = (k : ℕ) → k < length items.now → is_small (slice_index_or items.now k (pos 0)) ≡ false
+AreWide _ = Unit {0}
+
+-- the rows that are still to come: the number of the first, and the values with their kinds
 pub record RowsLeft : Type 0 where
   pub first : ℕ
   pub values : List Value
+  pub kinds : List Tag
 
 -- a span of the rows that are left, and the rows behind it
 pub record IsNextSpan (left : RowsLeft) (span : ValueSpan) (after : RowsLeft) : Type 0 where
@@ -41,6 +48,9 @@ pub record IsNextSpan (left : RowsLeft) (span : ValueSpan) (after : RowsLeft) : 
   pub some : 1 ≤ length (span_values span)
   pub values : left.values ≡ span_values span ++ after.values
   pub behind : after.first ≡ left.first + length (span_values span)
+  pub kinds : left.kinds ≡ replicate (length (span_values span)) (span_kind span) ++ after.kinds
+  pub longest : 1 ≤ length after.values → slice_index_or after.kinds 0 tag.Blank ≢ span_kind span
+  pub wide : AreWide span
 
 -- a span of the rows that are left, or none where no row is
 abbrev pub YieldsSpan : RowsLeft → Option ValueSpan → RowsLeft → Type 0
@@ -49,3 +59,7 @@ YieldsSpan left span after = MatchOption span ((left.values ≡ []) × (after.va
 -- the values of n rows of lanes from one on
 abbrev pub rows_left : Lanes → ℕ → ℕ → List Value
 rows_left t from n = map (λ k. value_at t (from + k)) (range_with_len 0 n)
+
+-- and their kinds
+abbrev pub kinds_left : Lanes → ℕ → ℕ → List Tag
+kinds_left t from n = map (λ k. slice_index_or t.tags.items (from + k) tag.Blank) (range_with_len 0 n)

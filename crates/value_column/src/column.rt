@@ -3,7 +3,7 @@ ghost use Rattle.run_tables.specs.Rows.{AreRows, IsRowEdit, rows_erased, rows_in
 ghost use Rattle.calc_model.specs.UsedCells.{values_of};
 ghost use Rattle.calc_model.specs.ValueTexts.{lent};
 ghost use Rattle.calc_model.specs.declared.value.Value.TheVariants as value;
-ghost use Rattle.value_column.specs.Spans.{span_first, span_values};
+ghost use Rattle.value_column.specs.Spans.{AreWide, span_first, span_values};
 ghost use Rattle.value_column.specs.ValueRows.{IsRun, no_values, run_set};
 
 use crate::item::Item;
@@ -160,6 +160,7 @@ impl ValueColumn {
         ensures rows { (k : ℕ) → k < length (span_values result)
             → slice_index_or (span_values result) k value.Blank
             ≡ slice_index_or self.now.values (first - 1 + k) value.Blank }
+        ensures wide { AreWide result }
     {
         self.lanes.span(first as usize - 1, last as usize)
     }

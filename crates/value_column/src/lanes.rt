@@ -6,7 +6,7 @@ ghost use Rattle.calc_model.specs.declared.value.Value.TheVariants as value;
 ghost use Rattle.std.specs.Vec.{vec_capacity};
 ghost use Rattle.value_column.specs.declared.lane.Tag.TheVariants as tag;
 ghost use Rattle.value_column.specs.Lanes.{closed, opened};
-ghost use Rattle.value_column.specs.Spans.{span_first, span_values};
+ghost use Rattle.value_column.specs.Spans.{AreWide, span_first, span_kind, span_values};
 ghost use Rattle.value_column.specs.Rows.{AreLanes, HasRoom, IsItem, IsLonger, IsReady, cleared, item_value, tag_of, untagged, value_at};
 
 use crate::item::Item;
@@ -119,6 +119,8 @@ impl Lanes {
         ensures tags { (k : ℕ) → first ≤ k → k < result
             → slice_index_or self.now.tags.items k tag.Blank
             ≡ slice_index_or self.now.tags.items first tag.Blank }
+        ensures longest { result < end → slice_index_or self.now.tags.items result tag.Blank
+            ≢ slice_index_or self.now.tags.items first tag.Blank }
     {
         if first >= self.tags.len() {
             return end;
@@ -164,6 +166,12 @@ impl Lanes {
         ensures within { first + length (span_values result) ≤ end }
         ensures rows { (k : ℕ) → k < length (span_values result)
             → slice_index_or (span_values result) k value.Blank ≡ value_at self.now (first + k) }
+        ensures kinds { (k : ℕ) → k < length (span_values result)
+            → slice_index_or self.now.tags.items (first + k) tag.Blank ≡ span_kind result }
+        ensures longest { first + length (span_values result) < end
+            → slice_index_or self.now.tags.items (first + length (span_values result)) tag.Blank
+            ≢ span_kind result }
+        ensures wide { AreWide result }
     {
         let to = self.run_end(first, end);
         let row = first as u32 + 1;

@@ -1,4 +1,4 @@
-use Rattle.std.proofs.Common.{◌≡◌, ℕ, pos, ◌+◌, ◌-◌, ◌<◌, List, [], map, take, drop, length, get_or, sym, ap, ◌∙◌, arith}
+use Rattle.std.proofs.Common.{◌≡◌, ℕ, pos, ◌+◌, ◌-◌, ◌^◌, ◌<◌, List, [], map, take, drop, length, get_or, sym, ap, ◌∙◌, arith}
 use Rattle.std.proofs.lemmas.List.{get_or-map, get_or-take, get_or-drop, length-map, length-take}
 use Rattle.calc_model.specs.declared.fault.Fault.{Fault}
 use Rattle.calc_model.specs.declared.fault.Fault.TheVariants.{NA}
@@ -14,7 +14,7 @@ faults-lent t xs a m k e h tagged =
     let few : k < m = omega (arith, length-take m (drop a xs)) in
     get_or-map value.Bad (take m (drop a xs)) k NA value.Blank short
     ∙ ap value.Bad (get_or-take m (drop a xs) k NA few ∙ get_or-drop a xs k NA ∙ ap (λ v. get_or v (a + k) NA) e)
-    ∙ sym (ap (λ g. value_in g (get_or t.small.items (a + k) (pos 0)) (get_or t.wide.items (a + k) (pos 0)) (get_or t.words.items (a + k) []) (get_or t.bad.items (a + k) NA)) (tagged few))
+    ∙ sym (ap (λ g. value_in g (get_or t.small.items (a + k) (pos 0)) (get_or t.wide.items (a + k) (pos (2 ^ 63))) (get_or t.words.items (a + k) []) (get_or t.bad.items (a + k) NA)) (tagged few))
 
 pub returns-in-Bad-clause-rows : goal.returns-in-Bad-clause-rows
 returns-in-Bad-clause-rows c =
