@@ -6,7 +6,7 @@ use Rattle.calc_model.specs.declared.value.Value.TheVariants as value
 use Rattle.value_column.specs.declared.lanes.Lanes.{Lanes}
 use Rattle.value_column.specs.declared.lane.Tag.{Tag}
 use Rattle.value_column.specs.declared.lane.Tag.TheVariants as tag
-use Rattle.value_column.specs.Rows.{is_small, value_at}
+use Rattle.value_column.specs.Rows.{is_small, value_at, value_tag}
 use Rattle.value_column.specs.declared.span.ValueSpan.{ValueSpan}
 use Rattle.value_column.specs.declared.span.ValueSpan.TheVariants.{Small, Wide, Words, Faults, Blank}
 
@@ -24,6 +24,7 @@ span_first (Words first items) = first
 span_first (Faults first items) = first
 span_first (Blank first count) = first
 
+-- the kind of its values
 abbrev pub span_kind : ValueSpan → Tag
 span_kind (Small first items) = tag.Small
 span_kind (Wide first items) = tag.Wide
@@ -36,11 +37,10 @@ abbrev pub AreWide : ValueSpan → Type 0
 AreWide (Wide first items) = (k : ℕ) → k < length items.now → is_small (slice_index_or items.now k (pos 0)) ≡ false
 AreWide _ = Unit {0}
 
--- the rows that are still to come: the number of the first, and the values with their kinds
+-- the rows that are still to come: the number of the first, and the values
 pub record RowsLeft : Type 0 where
   pub first : ℕ
   pub values : List Value
-  pub kinds : List Tag
 
 -- a span of the rows that are left, and the rows behind it
 pub record IsNextSpan (left : RowsLeft) (span : ValueSpan) (after : RowsLeft) : Type 0 where
@@ -48,8 +48,8 @@ pub record IsNextSpan (left : RowsLeft) (span : ValueSpan) (after : RowsLeft) : 
   pub some : 1 ≤ length (span_values span)
   pub values : left.values ≡ span_values span ++ after.values
   pub behind : after.first ≡ left.first + length (span_values span)
-  pub kinds : left.kinds ≡ replicate (length (span_values span)) (span_kind span) ++ after.kinds
-  pub longest : 1 ≤ length after.values → slice_index_or after.kinds 0 tag.Blank ≢ span_kind span
+  pub kind : value_tag (slice_index_or (span_values span) 0 value.Blank) ≡ span_kind span
+  pub longest : 1 ≤ length after.values → value_tag (slice_index_or after.values 0 value.Blank) ≢ span_kind span
   pub wide : AreWide span
 
 -- a span of the rows that are left, or none where no row is
@@ -59,7 +59,3 @@ YieldsSpan left span after = MatchOption span ((left.values ≡ []) × (after.va
 -- the values of n rows of lanes from one on
 abbrev pub rows_left : Lanes → ℕ → ℕ → List Value
 rows_left t from n = map (λ k. value_at t (from + k)) (range_with_len 0 n)
-
--- and their kinds
-abbrev pub kinds_left : Lanes → ℕ → ℕ → List Tag
-kinds_left t from n = map (λ k. slice_index_or t.tags.items (from + k) tag.Blank) (range_with_len 0 n)

@@ -7,7 +7,7 @@ ghost use Rattle.std.specs.Vec.{vec_capacity};
 ghost use Rattle.value_column.specs.declared.lane.Tag.TheVariants as tag;
 ghost use Rattle.value_column.specs.Lanes.{closed, opened};
 ghost use Rattle.value_column.specs.Spans.{AreWide, span_first, span_kind, span_values};
-ghost use Rattle.value_column.specs.Rows.{AreLanes, HasRoom, IsItem, IsLonger, IsReady, cleared, item_value, tag_of, untagged, value_at};
+ghost use Rattle.value_column.specs.Rows.{AreLanes, HasRoom, IsItem, IsLonger, IsReady, cleared, item_value, tag_of, untagged, value_at, value_tag};
 
 use crate::item::Item;
 use crate::lane::{Tag, close_rows, grow, make_room, open_rows, room_to_open};
@@ -111,6 +111,22 @@ impl Lanes {
         }
     }
 
+    /// The kind of what a row shows, which is its tag.
+    fn kind(&self, row: usize) -> Tag
+        requires { AreLanes self.now }
+        ensures tag { result ≡ slice_index_or self.now.tags.items row tag.Blank }
+        ensures value { result ≡ value_tag (value_at self.now row) }
+    {
+        let tag = self.tag(row);
+        match tag {
+            Tag::Small => {
+                let _raw = self.small[row];
+            }
+            Tag::Blank | Tag::Wide | Tag::Words | Tag::Bad => {}
+        }
+        tag
+    }
+
     /// The end of the rows from the first on that have its tag, at most `end`. It is linear in these.
     pub(crate) fn run_end(&self, first: usize, end: usize) -> usize
         requires { first < end }
@@ -166,16 +182,16 @@ impl Lanes {
         ensures within { first + length (span_values result) ≤ end }
         ensures rows { (k : ℕ) → k < length (span_values result)
             → slice_index_or (span_values result) k value.Blank ≡ value_at self.now (first + k) }
-        ensures kinds { (k : ℕ) → k < length (span_values result)
-            → slice_index_or self.now.tags.items (first + k) tag.Blank ≡ span_kind result }
+        ensures kind { value_tag (value_at self.now first) ≡ span_kind result }
         ensures longest { first + length (span_values result) < end
-            → slice_index_or self.now.tags.items (first + length (span_values result)) tag.Blank
+            → value_tag (value_at self.now (first + length (span_values result)))
             ≢ span_kind result }
         ensures wide { AreWide result }
     {
         let to = self.run_end(first, end);
+        prove!(to >= end || !is_same(self.kind(to), self.kind(first)));
         let row = first as u32 + 1;
-        match self.tag(first) {
+        match self.kind(first) {
             Tag::Blank => ValueSpan::Blank {
                 first: row,
                 count: (to - first) as u32,

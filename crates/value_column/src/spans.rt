@@ -9,7 +9,7 @@ use crate::span::ValueSpan;
 use std::marker::Model;
 
 /// Rows of a column that are still to come, span by span. Contracts see the number of the first and
-/// the list of their values and kinds.
+/// the list of their values.
 #[derive(Drop)]
 pub struct Spans<'a> {
     lanes: &'a Lanes,
@@ -20,7 +20,7 @@ pub struct Spans<'a> {
 impl<'a> Model for Spans<'a> {
     ghost use Rattle.std.specs.Prelude.{◌+◌, ◌-◌, ◌≤◌};
     ghost use Rattle.calc_addr.specs.declared.cell.TheConstants.{LAST_ROW};
-    ghost use Rattle.value_column.specs.Spans.{RowsLeft, kinds_left, rows_left};
+    ghost use Rattle.value_column.specs.Spans.{RowsLeft, rows_left};
     ghost use Rattle.value_column.specs.Rows.{AreLanes};
 
     ghost Value = { RowsLeft };
@@ -29,7 +29,6 @@ impl<'a> Model for Spans<'a> {
         record {
           first = s.next + 1;
           values = rows_left s.lanes.now s.next (s.end - s.next);
-          kinds = kinds_left s.lanes.now s.next (s.end - s.next);
         } };
 
     ghost invariant = { λ s. AreLanes s.lanes.now × (s.end ≤ LAST_ROW) };

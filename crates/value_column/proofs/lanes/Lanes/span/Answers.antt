@@ -20,4 +20,4 @@ pub returns-in-Bad-clause-rows : goal.returns-in-Bad-clause-rows
 returns-in-Bad-clause-rows c =
     λ k h.
     faults-lent c.args.self.now c.deref-in-Bad.result.now c.args.first (c.run_end-to.result - c.args.first) k c.deref-in-Bad.ensures.value h
-    (λ few. c.run_end-to.ensures.tags (c.args.first + k) (omega arith) (omega (arith, c.run_end-to.ensures.some)) ∙ sym c.in-Bad.ensures)
+    (λ few. c.run_end-to.ensures.tags (c.args.first + k) (omega arith) (omega (arith, c.run_end-to.ensures.some)) ∙ sym c.in-Bad.ensures.tag)
