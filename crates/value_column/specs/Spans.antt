@@ -1,12 +1,12 @@
 -- The values of neighbouring rows of one kind.
-use Rattle.std.specs.Prelude.{◌≡◌, ◌≢◌, ◌<◌, ◌≤◌, pos, false, slice_index_or, ◌+◌, ℕ, List, [], ◌++◌, map, length, replicate, Option, MatchOption}
+use Rattle.std.specs.Prelude.{◌≡◌, ◌≢◌, ◌<◌, ◌≤◌, slice_index_or, ◌+◌, ℕ, List, [], ◌++◌, map, length, replicate, Option, MatchOption}
 use Rattle.std.specs.List.{range_with_len}
 use Rattle.calc_model.specs.declared.value.Value.{Value}
 use Rattle.calc_model.specs.declared.value.Value.TheVariants as value
 use Rattle.value_column.specs.declared.lanes.Lanes.{Lanes}
 use Rattle.value_column.specs.declared.lane.Tag.{Tag}
 use Rattle.value_column.specs.declared.lane.Tag.TheVariants as tag
-use Rattle.value_column.specs.Rows.{is_small, value_at, value_tag}
+use Rattle.value_column.specs.Rows.{value_at, value_tag}
 use Rattle.value_column.specs.declared.span.ValueSpan.{ValueSpan}
 use Rattle.value_column.specs.declared.span.ValueSpan.TheVariants.{Small, Wide, Words, Faults, Blank}
 
@@ -24,18 +24,13 @@ span_first (Words first items) = first
 span_first (Faults first items) = first
 span_first (Blank first count) = first
 
--- the kind of its values
+-- the kind of each of its values
 abbrev pub span_kind : ValueSpan → Tag
 span_kind (Small first items) = tag.Small
 span_kind (Wide first items) = tag.Wide
 span_kind (Words first items) = tag.Words
 span_kind (Faults first items) = tag.Bad
 span_kind (Blank first count) = tag.Blank
-
--- a number of a wide span doesn't fit in 64 bits, as each of a small span does by its type
-abbrev pub AreWide : ValueSpan → Type 0
-AreWide (Wide first items) = (k : ℕ) → k < length items.now → is_small (slice_index_or items.now k (pos 0)) ≡ false
-AreWide _ = Unit {0}
 
 -- the rows that are still to come: the number of the first, and the values
 pub record RowsLeft : Type 0 where
@@ -48,9 +43,8 @@ pub record IsNextSpan (left : RowsLeft) (span : ValueSpan) (after : RowsLeft) : 
   pub some : 1 ≤ length (span_values span)
   pub values : left.values ≡ span_values span ++ after.values
   pub behind : after.first ≡ left.first + length (span_values span)
-  pub kind : value_tag (slice_index_or (span_values span) 0 value.Blank) ≡ span_kind span
+  pub kinds : (k : ℕ) → k < length (span_values span) → value_tag (slice_index_or (span_values span) k value.Blank) ≡ span_kind span
   pub longest : 1 ≤ length after.values → value_tag (slice_index_or after.values 0 value.Blank) ≢ span_kind span
-  pub wide : AreWide span
 
 -- a span of the rows that are left, or none where no row is
 abbrev pub YieldsSpan : RowsLeft → Option ValueSpan → RowsLeft → Type 0

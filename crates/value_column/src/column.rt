@@ -3,7 +3,7 @@ ghost use Rattle.run_tables.specs.Rows.{AreRows, IsRowEdit, rows_erased, rows_in
 ghost use Rattle.calc_model.specs.UsedCells.{values_of};
 ghost use Rattle.calc_model.specs.ValueTexts.{lent};
 ghost use Rattle.calc_model.specs.declared.value.Value.TheVariants as value;
-ghost use Rattle.value_column.specs.Spans.{AreWide, span_first, span_kind, span_values};
+ghost use Rattle.value_column.specs.Spans.{span_first, span_kind, span_values};
 ghost use Rattle.value_column.specs.Rows.{value_tag};
 ghost use Rattle.value_column.specs.ValueRows.{IsRun, no_values, run_set};
 
@@ -161,12 +161,11 @@ impl ValueColumn {
         ensures rows { (k : ℕ) → k < length (span_values result)
             → slice_index_or (span_values result) k value.Blank
             ≡ slice_index_or self.now.values (first - 1 + k) value.Blank }
-        ensures kind { value_tag (slice_index_or (span_values result) 0 value.Blank)
-            ≡ span_kind result }
+        ensures kinds { (k : ℕ) → k < length (span_values result)
+            → value_tag (slice_index_or (span_values result) k value.Blank) ≡ span_kind result }
         ensures longest { first + length (span_values result) < last + 1
             → value_tag (slice_index_or self.now.values
             (first - 1 + length (span_values result)) value.Blank) ≢ span_kind result }
-        ensures wide { AreWide result }
     {
         self.lanes.span(first as usize - 1, last as usize)
     }

@@ -1,4 +1,4 @@
-ghost use Rattle.std.specs.Prelude.{◌≡◌, ◌≢◌, ℕ, ◌≤◌, ◌<◌, ◌+◌, ◌-◌, ◌++◌, take, drop, replicate, length, ◌↔◌, IsTrue, vec_len, OnOk, OnErr, IsOk, List, slice_index_or};
+ghost use Rattle.std.specs.Prelude.{◌≡◌, ◌≢◌, ℕ, ◌≤◌, ◌<◌, ◌+◌, ◌-◌, ◌++◌, take, drop, replicate, length, pos, true, ◌↔◌, IsTrue, vec_len, OnOk, OnErr, IsOk, List, slice_index_or};
 ghost use Rattle.calc_addr.specs.declared.cell.TheConstants.{LAST_ROW};
 ghost use Rattle.calc_model.specs.UsedCells.{values_of};
 ghost use Rattle.calc_model.specs.ValueTexts.{lent};
@@ -6,8 +6,8 @@ ghost use Rattle.calc_model.specs.declared.value.Value.TheVariants as value;
 ghost use Rattle.std.specs.Vec.{vec_capacity};
 ghost use Rattle.value_column.specs.declared.lane.Tag.TheVariants as tag;
 ghost use Rattle.value_column.specs.Lanes.{closed, opened};
-ghost use Rattle.value_column.specs.Spans.{AreWide, span_first, span_kind, span_values};
-ghost use Rattle.value_column.specs.Rows.{AreLanes, HasRoom, IsItem, IsLonger, IsReady, cleared, item_value, tag_of, untagged, value_at, value_tag};
+ghost use Rattle.value_column.specs.Spans.{span_first, span_kind, span_values};
+ghost use Rattle.value_column.specs.Rows.{AreLanes, HasRoom, IsItem, IsLonger, IsReady, cleared, is_small, item_value, tag_of, untagged, value_at, value_tag};
 
 use crate::item::Item;
 use crate::lane::{Tag, close_rows, grow, make_room, open_rows, room_to_open};
@@ -32,6 +32,18 @@ fn is_same(left: Tag, right: Tag) -> bool
     ensures { IsTrue result ↔ (left ≡ right) }
 {
     left == right
+}
+
+/// Each of the raw numbers fits in 64 bits, as its type says.
+fn are_small(items: &[i64]) -> bool
+    ensures holds { IsTrue result }
+    ensures small { (k : ℕ) → k < length items.now
+        → is_small (slice_index_or items.now k (pos 0)) ≡ true }
+{
+    for k in 0..items.len() {
+        let _raw = items[k];
+    }
+    true
 }
 
 /// Gives neighbouring rows a tag.
@@ -182,11 +194,11 @@ impl Lanes {
         ensures within { first + length (span_values result) ≤ end }
         ensures rows { (k : ℕ) → k < length (span_values result)
             → slice_index_or (span_values result) k value.Blank ≡ value_at self.now (first + k) }
-        ensures kind { value_tag (value_at self.now first) ≡ span_kind result }
+        ensures kinds { (k : ℕ) → k < length (span_values result)
+            → value_tag (slice_index_or (span_values result) k value.Blank) ≡ span_kind result }
         ensures longest { first + length (span_values result) < end
             → value_tag (value_at self.now (first + length (span_values result)))
             ≢ span_kind result }
-        ensures wide { AreWide result }
     {
         let to = self.run_end(first, end);
         prove!(to >= end || !is_same(self.kind(to), self.kind(first)));
@@ -196,10 +208,11 @@ impl Lanes {
                 first: row,
                 count: (to - first) as u32,
             },
-            Tag::Small => ValueSpan::Small {
-                first: row,
-                items: &self.small[first..to],
-            },
+            Tag::Small => {
+                let items = &self.small[first..to];
+                prove!(are_small(items));
+                ValueSpan::Small { first: row, items }
+            }
             Tag::Wide => ValueSpan::Wide {
                 first: row,
                 items: &self.wide[first..to],
