@@ -1,5 +1,5 @@
 -- Rows that show copied numbers.
-use Rattle.std.proofs.Common.{◌≡◌, ℕ, zero, suc, ℤ, pos, ◌+◌, ◌-◌, ◌<◌, ◌≤◌, ◌&&◌, Bool, true, false, nat_lt, nat_le, List, [], ◌++◌, take, drop, length, replicate, get_or, cond, vec_len, refl, sym, ap, ◌∙◌, inl, inr, ◌⊎◌, arith}
+use Rattle.std.proofs.Common.{◌≡◌, ℕ, zero, suc, ℤ, pos, ◌+◌, ◌-◌, ◌^◌, ◌<◌, ◌≤◌, ◌&&◌, Bool, true, false, nat_lt, nat_le, List, [], ◌++◌, take, drop, length, replicate, get_or, cond, vec_len, refl, sym, ap, ◌∙◌, inl, inr, ◌⊎◌, arith}
 use Rattle.std.proofs.lemmas.Bool.{cond-true, cond-false, lt-ltb, le-leb, lt-leb, le-ltb, cases_lt, and_from, and_left, and_right}
 use Rattle.std.proofs.lemmas.List.{get_or_append_left, get_or-append_right, get_or-take, get_or-drop, get_or_default, length-take-le, length-replicate}
 use Rattle.calc_model.specs.declared.fault.Fault.{Fault}
@@ -45,12 +45,12 @@ pub copied : (t u : Lanes) (a b : ℕ) (items : List ℤ) → a + length items �
     → u.tags.items ≡ take a t.tags.items ++ (replicate (b - a) tag.Small ++ drop b t.tags.items) → u.small.items ≡ take a t.small.items ++ (items ++ drop b t.small.items) → u.wide ≡ t.wide → u.words ≡ t.words → u.bad ≡ t.bad
     → (r : ℕ) → value_at u r ≡ written a (length items) (λ k. value.Number (get_or items k (pos 0))) (value_at t) r
 copied t u a b items end tags_in small_in tags small wide words bad r =
-    ap (λ n. value_in (get_or u.tags.items r tag.Blank) (get_or u.small.items r (pos 0)) n (get_or u.words.items r []) (get_or u.bad.items r NA)) (ap (λ v. get_or v.items r (pos 0)) wide)
-    ∙ ap (λ n. value_in (get_or u.tags.items r tag.Blank) (get_or u.small.items r (pos 0)) (get_or t.wide.items r (pos 0)) n (get_or u.bad.items r NA)) (ap (λ v. get_or v.items r []) words)
-    ∙ ap (λ n. value_in (get_or u.tags.items r tag.Blank) (get_or u.small.items r (pos 0)) (get_or t.wide.items r (pos 0)) (get_or t.words.items r []) n) (ap (λ v. get_or v.items r NA) bad)
-    ∙ ap (λ g. value_in g (get_or u.small.items r (pos 0)) (get_or t.wide.items r (pos 0)) (get_or t.words.items r []) (get_or t.bad.items r NA)) (tag-at r)
-    ∙ ap (λ n. value_in (cond (nat_le a r && nat_lt r b) tag.Small (get_or t.tags.items r tag.Blank)) n (get_or t.wide.items r (pos 0)) (get_or t.words.items r []) (get_or t.bad.items r NA)) (small-at r)
-    ∙ small-choice (nat_le a r && nat_lt r b) (get_or t.tags.items r tag.Blank) (get_or items (r - a) (pos 0)) (get_or t.small.items r (pos 0)) (get_or t.wide.items r (pos 0)) (get_or t.words.items r []) (get_or t.bad.items r NA)
+    ap (λ n. value_in (get_or u.tags.items r tag.Blank) (get_or u.small.items r (pos 0)) n (get_or u.words.items r []) (get_or u.bad.items r NA)) (ap (λ v. get_or v.items r (pos (2 ^ 63))) wide)
+    ∙ ap (λ n. value_in (get_or u.tags.items r tag.Blank) (get_or u.small.items r (pos 0)) (get_or t.wide.items r (pos (2 ^ 63))) n (get_or u.bad.items r NA)) (ap (λ v. get_or v.items r []) words)
+    ∙ ap (λ n. value_in (get_or u.tags.items r tag.Blank) (get_or u.small.items r (pos 0)) (get_or t.wide.items r (pos (2 ^ 63))) (get_or t.words.items r []) n) (ap (λ v. get_or v.items r NA) bad)
+    ∙ ap (λ g. value_in g (get_or u.small.items r (pos 0)) (get_or t.wide.items r (pos (2 ^ 63))) (get_or t.words.items r []) (get_or t.bad.items r NA)) (tag-at r)
+    ∙ ap (λ n. value_in (cond (nat_le a r && nat_lt r b) tag.Small (get_or t.tags.items r tag.Blank)) n (get_or t.wide.items r (pos (2 ^ 63))) (get_or t.words.items r []) (get_or t.bad.items r NA)) (small-at r)
+    ∙ small-choice (nat_le a r && nat_lt r b) (get_or t.tags.items r tag.Blank) (get_or items (r - a) (pos 0)) (get_or t.small.items r (pos 0)) (get_or t.wide.items r (pos (2 ^ 63))) (get_or t.words.items r []) (get_or t.bad.items r NA)
     ∙ ap (λ n. cond (nat_le a r && nat_lt r n) (value.Number (get_or items (r - a) (pos 0))) (value_at t r)) (sym end)
   where
     longs : length (replicate (b - a) tag.Small) ≡ b - a

@@ -18,6 +18,9 @@ left-length t from n = length-map-range_with_len (λ k. value_at t (from + k)) 0
 left-at : (t : Lanes) (from n k : ℕ) → k < n → get_or (rows_left t from n) k Blank ≡ value_at t (from + k)
 left-at t from n k h = get_or-map-range_with_len (λ i. value_at t (from + i)) 0 n k k Blank h (omega arith)
 
+pub first-left : (t : Lanes) (from n : ℕ) → 1 ≤ n → get_or (rows_left t from n) 0 Blank ≡ value_at t from
+first-left t from n some = let place : from + 0 ≡ from = omega arith in left-at t from n 0 (omega arith) ∙ ap (value_at t) place
+
 pub left-behind : (t : Lanes) (vs : List Value) (from end : ℕ) → from + length vs ≤ end → ((k : ℕ) → k < length vs → get_or vs k Blank ≡ value_at t (from + k)) → rows_left t from (end - from) ≡ vs ++ rows_left t (from + length vs) (end - (from + length vs))
 left-behind t vs from end within same =
     sym (fill_by_all (λ k. value_at t (from + k)) (vs ++ rows_left t (from + length vs) (end - (from + length vs))) (end - from) Blank whole (λ k h. at k h (cases_lt k (length vs))))

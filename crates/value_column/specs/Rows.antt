@@ -1,5 +1,5 @@
 -- What the rows of a column show, by their tags and items. The first row's number is 0.
-use Rattle.std.specs.Prelude.{ℕ, ℤ, pos, negsuc, int_le, ◌+◌, ◌^◌, ◌-◌, Bool, ◌≤◌, ◌<◌, ◌&&◌, nat_le, nat_lt, if◌then◌else◌, List, [], map, slice_index_or, vec_len}
+use Rattle.std.specs.Prelude.{◌≡◌, ℕ, ℤ, false, pos, negsuc, int_le, ◌+◌, ◌^◌, ◌-◌, Bool, ◌≤◌, ◌<◌, ◌&&◌, nat_le, nat_lt, if◌then◌else◌, List, [], map, slice_index_or, vec_len}
 use Rattle.std.specs.List.{range_with_len}
 use Rattle.std.specs.Vec.{vec_capacity}
 use Rattle.calc_num.specs.Decimals.{IsRaw}
@@ -21,9 +21,13 @@ item_value (Wide n) = value.Number n
 item_value (Words text) = value.Words text
 item_value (Bad fault) = value.Bad fault
 
+-- the raw number fits in 64 bits
+abbrev pub is_small : ℤ → Bool
+is_small n = int_le (negsuc (2 ^ 63 - 1)) n && int_le n (pos (2 ^ 63 - 1))
+
 -- the item stands for a value
 abbrev pub IsItem : Item → Type 0
-IsItem (Wide n) = IsRaw n
+IsItem (Wide n) = IsRaw n × (is_small n ≡ false)
 IsItem _ = Unit {0}
 
 -- what a row shows by its tag and the items in the lanes
@@ -37,7 +41,7 @@ value_in tag.Bad n w text fault = value.Bad fault
 abbrev pub value_at : Lanes → ℕ → Value
 value_at t r =
     value_in (slice_index_or t.tags.items r tag.Blank) (slice_index_or t.small.items r (pos 0))
-    (slice_index_or t.wide.items r (pos 0)) (slice_index_or t.words.items r []) (slice_index_or t.bad.items r NA)
+    (slice_index_or t.wide.items r (pos (2 ^ 63))) (slice_index_or t.words.items r []) (slice_index_or t.bad.items r NA)
 
 -- the lane of the row's tag has the row
 abbrev pub LaneHas : Lanes → ℕ → Tag → Type 0
@@ -51,7 +55,8 @@ LaneHas t r tag.Bad = r < vec_len t.bad
 pub record AreLanes (t : Lanes) : Type 0 where
   pub rows : vec_len t.tags ≤ LAST_ROW
   pub wide : vec_len t.wide ≤ LAST_ROW
-  pub raw : (r : ℕ) → IsRaw (slice_index_or t.wide.items r (pos 0))
+  pub raw : (r : ℕ) → IsRaw (slice_index_or t.wide.items r (pos (2 ^ 63)))
+  pub large : (r : ℕ) → is_small (slice_index_or t.wide.items r (pos (2 ^ 63))) ≡ false
   pub tagged : (r : ℕ) → LaneHas t r (slice_index_or t.tags.items r tag.Blank)
 
 abbrev pub tag_of : Item → Tag
@@ -60,10 +65,6 @@ tag_of (Small n) = tag.Small
 tag_of (Wide n) = tag.Wide
 tag_of (Words text) = tag.Words
 tag_of (Bad fault) = tag.Bad
-
--- the raw number fits in 64 bits
-abbrev pub is_small : ℤ → Bool
-is_small n = int_le (negsuc (2 ^ 63 - 1)) n && int_le n (pos (2 ^ 63 - 1))
 
 -- the lane that keeps a value
 abbrev pub value_tag : Value → Tag

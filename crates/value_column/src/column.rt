@@ -1,9 +1,10 @@
-ghost use Rattle.std.specs.Prelude.{◌≡◌, ◌≤◌, ◌<◌, ℕ, ◌+◌, ◌-◌, length, map, pos, take, drop, Some, IfOk, OnOk, OnErr, IsOk, slice_get, slice_index_or, slice_set, vec_len};
+ghost use Rattle.std.specs.Prelude.{◌≡◌, ◌≢◌, ◌≤◌, ◌<◌, ℕ, ◌+◌, ◌-◌, length, map, pos, take, drop, Some, IfOk, OnOk, OnErr, IsOk, slice_get, slice_index_or, slice_set, vec_len};
 ghost use Rattle.run_tables.specs.Rows.{AreRows, IsRowEdit, rows_erased, rows_inserted, rows_set};
 ghost use Rattle.calc_model.specs.UsedCells.{values_of};
 ghost use Rattle.calc_model.specs.ValueTexts.{lent};
 ghost use Rattle.calc_model.specs.declared.value.Value.TheVariants as value;
-ghost use Rattle.value_column.specs.Spans.{span_first, span_values};
+ghost use Rattle.value_column.specs.Spans.{span_first, span_kind, span_values};
+ghost use Rattle.value_column.specs.Rows.{value_tag};
 ghost use Rattle.value_column.specs.ValueRows.{IsRun, no_values, run_set};
 
 use crate::item::Item;
@@ -160,6 +161,11 @@ impl ValueColumn {
         ensures rows { (k : ℕ) → k < length (span_values result)
             → slice_index_or (span_values result) k value.Blank
             ≡ slice_index_or self.now.values (first - 1 + k) value.Blank }
+        ensures kinds { (k : ℕ) → k < length (span_values result)
+            → value_tag (slice_index_or (span_values result) k value.Blank) ≡ span_kind result }
+        ensures longest { first + length (span_values result) < last + 1
+            → value_tag (slice_index_or self.now.values
+            (first - 1 + length (span_values result)) value.Blank) ≢ span_kind result }
     {
         self.lanes.span(first as usize - 1, last as usize)
     }

@@ -45,13 +45,14 @@ impl Plain for i64 {
     }
 }
 
+// An item that needs more than 64 bits, as the others of its lane.
 impl Plain for i128 {
-    ghost use Rattle.std.specs.Prelude.{pos};
+    ghost use Rattle.std.specs.Prelude.{pos, ◌^◌};
 
-    ghost plain = { pos 0 };
+    ghost plain = { pos (2 ^ 63) };
 
     fn plain(_alloc: Global) -> i128 {
-        0
+        9_223_372_036_854_775_808
     }
 }
 

@@ -1,4 +1,4 @@
-ghost use Rattle.std.specs.Prelude.{◌≡◌, ◌≢◌, ℕ, ◌≤◌, ◌<◌, ◌+◌, ◌-◌, ◌++◌, take, drop, replicate, length, ◌↔◌, IsTrue, vec_len, OnOk, OnErr, IsOk, List, slice_index_or};
+ghost use Rattle.std.specs.Prelude.{◌≡◌, ◌≢◌, ℕ, ◌≤◌, ◌<◌, ◌+◌, ◌-◌, ◌++◌, take, drop, replicate, length, pos, true, ◌↔◌, IsTrue, vec_len, OnOk, OnErr, IsOk, List, slice_index_or};
 ghost use Rattle.calc_addr.specs.declared.cell.TheConstants.{LAST_ROW};
 ghost use Rattle.calc_model.specs.UsedCells.{values_of};
 ghost use Rattle.calc_model.specs.ValueTexts.{lent};
@@ -6,8 +6,8 @@ ghost use Rattle.calc_model.specs.declared.value.Value.TheVariants as value;
 ghost use Rattle.std.specs.Vec.{vec_capacity};
 ghost use Rattle.value_column.specs.declared.lane.Tag.TheVariants as tag;
 ghost use Rattle.value_column.specs.Lanes.{closed, opened};
-ghost use Rattle.value_column.specs.Spans.{span_first, span_values};
-ghost use Rattle.value_column.specs.Rows.{AreLanes, HasRoom, IsItem, IsLonger, IsReady, cleared, item_value, tag_of, untagged, value_at};
+ghost use Rattle.value_column.specs.Spans.{span_first, span_kind, span_values};
+ghost use Rattle.value_column.specs.Rows.{AreLanes, HasRoom, IsItem, IsLonger, IsReady, cleared, is_small, item_value, tag_of, untagged, value_at, value_tag};
 
 use crate::item::Item;
 use crate::lane::{Tag, close_rows, grow, make_room, open_rows, room_to_open};
@@ -32,6 +32,18 @@ fn is_same(left: Tag, right: Tag) -> bool
     ensures { IsTrue result ↔ (left ≡ right) }
 {
     left == right
+}
+
+/// Each of the raw numbers fits in 64 bits, as its type says.
+fn are_small(items: &[i64]) -> bool
+    ensures holds { IsTrue result }
+    ensures small { (k : ℕ) → k < length items.now
+        → is_small (slice_index_or items.now k (pos 0)) ≡ true }
+{
+    for k in 0..items.len() {
+        let _raw = items[k];
+    }
+    true
 }
 
 /// Gives neighbouring rows a tag.
@@ -111,6 +123,22 @@ impl Lanes {
         }
     }
 
+    /// The kind of what a row shows, which is its tag.
+    fn kind(&self, row: usize) -> Tag
+        requires { AreLanes self.now }
+        ensures tag { result ≡ slice_index_or self.now.tags.items row tag.Blank }
+        ensures value { result ≡ value_tag (value_at self.now row) }
+    {
+        let tag = self.tag(row);
+        match tag {
+            Tag::Small => {
+                let _raw = self.small[row];
+            }
+            Tag::Blank | Tag::Wide | Tag::Words | Tag::Bad => {}
+        }
+        tag
+    }
+
     /// The end of the rows from the first on that have its tag, at most `end`. It is linear in these.
     pub(crate) fn run_end(&self, first: usize, end: usize) -> usize
         requires { first < end }
@@ -119,6 +147,8 @@ impl Lanes {
         ensures tags { (k : ℕ) → first ≤ k → k < result
             → slice_index_or self.now.tags.items k tag.Blank
             ≡ slice_index_or self.now.tags.items first tag.Blank }
+        ensures longest { result < end → slice_index_or self.now.tags.items result tag.Blank
+            ≢ slice_index_or self.now.tags.items first tag.Blank }
     {
         if first >= self.tags.len() {
             return end;
@@ -164,18 +194,25 @@ impl Lanes {
         ensures within { first + length (span_values result) ≤ end }
         ensures rows { (k : ℕ) → k < length (span_values result)
             → slice_index_or (span_values result) k value.Blank ≡ value_at self.now (first + k) }
+        ensures kinds { (k : ℕ) → k < length (span_values result)
+            → value_tag (slice_index_or (span_values result) k value.Blank) ≡ span_kind result }
+        ensures longest { first + length (span_values result) < end
+            → value_tag (value_at self.now (first + length (span_values result)))
+            ≢ span_kind result }
     {
         let to = self.run_end(first, end);
+        prove!(to >= end || !is_same(self.kind(to), self.kind(first)));
         let row = first as u32 + 1;
-        match self.tag(first) {
+        match self.kind(first) {
             Tag::Blank => ValueSpan::Blank {
                 first: row,
                 count: (to - first) as u32,
             },
-            Tag::Small => ValueSpan::Small {
-                first: row,
-                items: &self.small[first..to],
-            },
+            Tag::Small => {
+                let items = &self.small[first..to];
+                prove!(are_small(items));
+                ValueSpan::Small { first: row, items }
+            }
             Tag::Wide => ValueSpan::Wide {
                 first: row,
                 items: &self.wide[first..to],

@@ -1,6 +1,7 @@
 use Rattle.std.proofs.Common.{◌+◌, ◌-◌, ◌++◌, sym, ap, subst, ◌∙◌, arith}
+use Rattle.value_column.specs.Rows.{value_at, value_tag}
 use Rattle.value_column.specs.Spans.{IsNextSpan, RowsLeft, rows_left, span_values}
-use Rattle.value_column.proofs.LeftRows.{left-behind, shorter}
+use Rattle.value_column.proofs.LeftRows.{first-left, left-behind, left-length, shorter}
 use Rattle.value_column.proofs.spans.SpansIterator.next.Goals as goal
 
 pub returns-clause-steps : goal.returns-clause-steps
@@ -16,6 +17,8 @@ returns-clause-steps c =
       some = c.span-span.ensures.some;
       values = left-behind t vs next end c.span-span.ensures.within c.span-span.ensures.rows ∙ ap (λ n. vs ++ rows_left t (next + n) (end - (next + n))) (sym c.len.ensures);
       behind = omega (arith, c.len.ensures);
+      kinds = c.span-span.ensures.kinds;
+      longest = λ some same. c.span-span.ensures.longest (omega (arith, some, c.len.ensures, left-length t (next + c.len.result) (end - (next + c.len.result)))) (ap value_tag (ap (λ m. value_at t (next + m)) (sym c.len.ensures) ∙ sym (first-left t (next + c.len.result) (end - (next + c.len.result)) (omega (arith, some, left-length t (next + c.len.result) (end - (next + c.len.result)))))) ∙ same);
     })
 
 pub returns-clause-goes : goal.returns-clause-goes
