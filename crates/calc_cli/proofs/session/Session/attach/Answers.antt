@@ -14,5 +14,5 @@ returns-in-Some g c =
     let shown : values_of before.workbook ≡ val before.workbook.book = subst (λ (s : SessionState). values_of s.workbook ≡ val s.workbook.book) (sym c.self.view_is) c.requires.values in
     on_ok_weaker c.attach.result
     (λ attached. subst (λ (now : SessionState). session_of after ≡ with_watcher (session_of now) c.args.area) c.self.view_is
-    (attached_session before c.attach.new.self (length c.take_one.new.stock.items) c.args.area _ _ (c.values.ensures ∙ shown) c.in-Some.ensures.told attached c.take_one.ensures.less))
+    (attached_session before c.attach.new.self (length c.take_one.new.stock.items) c.args.area _ _ (c.values.ensures.values ∙ shown) c.in-Some.ensures.told attached c.take_one.ensures.less))
     c.attach.ensures.ok
