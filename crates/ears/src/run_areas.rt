@@ -1,5 +1,6 @@
 ghost use Rattle.std.specs.Prelude.{◌≡◌, ◌≤◌, ℕ};
 ghost use Rattle.calc_addr.specs.Places.{IsRectangle};
+ghost use Rattle.calc_addr.specs.declared.cell.TheConstants.{LAST_ROW};
 ghost use Rattle.calc_model.specs.Ears.{area_at, end_at};
 ghost use Rattle.ears.specs.RunAreas.{LieInSheet, ear_below, has_step, hull, is_same_area, meets};
 
@@ -33,7 +34,7 @@ pub fn is_same_area(a: &Area, b: &Area) -> bool
 
 /// The row of an end, so many rows below the first one of the run.
 fn end_at(moves: bool, row: u32, step: u32) -> u32
-    requires { end_at moves row step ≤ 1048576 }
+    requires { end_at moves row step ≤ LAST_ROW }
     ensures { result ≡ end_at moves row step }
 {
     if moves { row + step } else { row }
