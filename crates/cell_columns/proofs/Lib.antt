@@ -1,0 +1,24 @@
+-- Orders: the cells of columns stand in the order of cells.
+-- Found: a cell is found in its column.
+-- Edited: columns and codes stay those of a book.
+-- PutSlot: a slot that is put into a cell. Contents: what cells hold after one is set.
+-- Counted: how many cells columns have. SetCell: a cell that is set.
+-- Uses: the uses of codes as slots come and go. Groups: the groups of columns.
+-- Maps: lists of columns by what they are seen as.
+-- Same: codes that are the same. Setting: columns, codes and groups in which a cell is set.
+-- Nothing: columns that are empty.
+-- Told: the cells of columns are those of a book, which slots decide.
+pub mod Orders
+pub mod Found
+pub mod Edited
+pub mod Told
+pub mod PutSlot
+pub mod Contents
+pub mod Counted
+pub mod SetCell
+pub mod Groups
+pub mod Uses
+pub mod Maps
+pub mod Same
+pub mod Setting
+pub mod Nothing

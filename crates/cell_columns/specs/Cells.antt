@@ -1,0 +1,65 @@
+-- The columns of sixteen sheets as the cells of a book. The columns are numbered from 0, those of the first sheet
+-- first, and each has the slots of its rows.
+use Rattle.std.specs.Prelude.{ℕ, ◌+◌, ◌-◌, ◌*◌, ◌/◌, ◌%◌, Option, List, [], ◌∷◌, ◌++◌, if◌then◌else◌, slice_index_or, slice_set}
+use Rattle.calc_addr.specs.declared.cell.TheConstants.{LAST_COL}
+use Rattle.calc_addr.specs.Places.{Place}
+use Rattle.calc_model.specs.declared.content.Content.{Content}
+use Rattle.calc_model.specs.declared.content.Content.TheVariants.{Empty, Constant, Formula, Raw}
+use Rattle.calc_model.specs.declared.value.Value.TheVariants as value
+use Rattle.calc_model.specs.CellEdits.{CellEntries}
+use Rattle.formula_code.specs.Codes.{Codes, tree_at}
+use Rattle.block_column.specs.declared.slot.Slot.{Slot}
+use Rattle.block_column.specs.declared.slot.Slot.TheVariants as slot
+use Rattle.block_column.specs.Kinds.{is_filled}
+
+abbrev pub Column : Type 0
+Column = List Slot
+
+-- the number of a cell's column
+abbrev pub column_number : Place → ℕ
+column_number q = q.sheet * LAST_COL + (q.col - 1)
+
+-- the cell of a column in a row
+abbrev pub cell_in : ℕ → ℕ → Place
+cell_in number row = record { sheet = number / LAST_COL; col = number % LAST_COL + 1; row = row }
+
+-- what a slot is in a cell
+abbrev pub content_of : Codes → Place → Slot → Content
+content_of codes home slot.Empty = Empty
+content_of codes home (slot.Number n) = Constant (value.Number n)
+content_of codes home (slot.Words text) = Constant (value.Words text)
+content_of codes home (slot.Bad fault) = Constant (value.Bad fault)
+content_of codes home (slot.Raw text) = Raw text
+content_of codes home (slot.Formula id) = Formula (tree_at codes id home)
+
+-- the cells of a column that aren't empty, from a row on
+abbrev pub cells_below : Codes → ℕ → ℕ → Column → CellEntries
+cells_below codes number row [] = []
+cells_below codes number row (x ∷ xs) =
+    let rest : CellEntries = cells_below codes number (row + 1) xs in
+    if is_filled x then (cell_in number row, content_of codes (cell_in number row) x) ∷ rest else rest
+
+-- the cells of columns from a number on that aren't empty
+abbrev pub cells_from : Codes → ℕ → List Column → CellEntries
+cells_from codes number [] = []
+cells_from codes number (c ∷ cs) = cells_below codes number 1 c ++ cells_from codes (number + 1) cs
+
+-- the cells of all columns that aren't empty, in the order of cells
+unfoldable pub cells_of : Codes → List Column → CellEntries
+cells_of codes columns = cells_from codes 0 columns
+
+-- the slot of a cell
+abbrev pub slot_at : List Column → Place → Slot
+slot_at columns q = slice_index_or (slice_index_or columns (column_number q) []) (q.row - 1) slot.Empty
+
+-- the slots of the column with that number
+abbrev pub column_at : List Column → ℕ → Column
+column_at columns number = slice_index_or columns number []
+
+-- the columns with the slot in the cell
+abbrev pub with_slot : List Column → Place → Slot → List Column
+with_slot columns cell x = slice_set columns (column_number cell) (slice_set (column_at columns (column_number cell)) (cell.row - 1) x)
+
+-- the codes of columns with that one, or none, in the cell
+abbrev pub with_code : List (List (Option ℕ)) → Place → Option ℕ → List (List (Option ℕ))
+with_code groups cell code = slice_set groups (column_number cell) (slice_set (slice_index_or groups (column_number cell) []) (cell.row - 1) code)

@@ -1,0 +1,10 @@
+-- Cells: the columns of sixteen sheets as the cells of a book.
+-- Uses: how many cells have each code.
+-- Sheets: columns and codes that are those of a book.
+-- Lent: what the columns and the groups are seen as.
+-- Taken: how the uses of codes change.
+pub mod Cells
+pub mod Uses
+pub mod Sheets
+pub mod Lent
+pub mod Taken

@@ -1,0 +1,84 @@
+use crate::cells::{code_at, column_number, make_room, put, used_at};
+use crate::making::{empty_columns, empty_groups};
+use crate::slots::{give_back, slot_of};
+use block_column::BlockColumn;
+use calc_addr::{Cell, NoMemory};
+use calc_model::{Content, MOST_CELLS};
+use formula_code::CodeTable;
+use formula_groups::GroupColumn;
+use std::alloc::Global;
+use std::marker::Model;
+
+/// How many columns there are: sixteen sheets of 1,024.
+pub const COLUMNS: usize = 16_384;
+
+/// What each cell of a book holds, as a column of slots for each column of its sheets, with the groups of
+/// its formulas and their codes. Contracts see the cells that aren't empty, in the order of cells.
+#[derive(Drop)]
+pub struct CellColumns {
+    // column c of sheet s stands at 1024 * s + c - 1
+    pub(crate) columns: Vec<BlockColumn>,
+    pub(crate) groups: Vec<GroupColumn>,
+    pub(crate) table: CodeTable,
+    pub(crate) len: usize,
+}
+
+impl Model for CellColumns {
+    ghost use Rattle.std.specs.Coded.{codes};
+    ghost use Rattle.calc_model.specs.CellEdits.{CellEntries};
+    ghost use Rattle.calc_model.specs.contracts.tree.Tree as coded_tree;
+
+    ghost Value = { CellEntries };
+
+    ghost coded = { Prim.hlevel (codes, coded_tree.the_row.coded) };
+
+    ghost use Rattle.cell_columns.specs.Cells.{cells_of};
+    ghost use Rattle.cell_columns.specs.Lent.{AreColumns, slots_of};
+
+    ghost view = { λ c. cells_of c.table (slots_of c.columns.items) };
+
+    ghost invariant = { λ c. AreColumns c.table c.columns.items c.groups.items c.len };
+}
+
+impl CellColumns {
+    ghost use Rattle.std.specs.Prelude.{◌≡◌, ◌≤◌, [], length, IfOk, OnErr, OnOk};
+    ghost use Rattle.calc_model.specs.Books.{with_content};
+
+    /// No cell. It makes all columns.
+    pub fn new(alloc: Global) -> Result<CellColumns, NoMemory>
+        ensures { IfOk result (λ c. c ≡ []) }
+    {
+        let columns = empty_columns(alloc)?;
+        let groups = empty_groups(alloc)?;
+        Ok(CellColumns {
+            columns,
+            groups,
+            table: CodeTable::new(alloc),
+            len: 0,
+        })
+    }
+
+    /// How many cells aren't empty.
+    pub fn len(&self) -> usize
+        ensures { result ≡ length self.now }
+    {
+        self.len
+    }
+
+    /// Puts a content into a cell, or empties it. It costs what the setting of a slot in its column does, and
+    /// is linear in the content.
+    pub fn set(&mut self, alloc: Global, cell: Cell, content: &Content) -> Result<(), NoMemory>
+        requires room { length (with_content self.old cell content.now) ≤ MOST_CELLS }
+        ensures cells { OnOk result (self.new ≡ with_content self.old cell content.now) }
+        ensures kept { OnErr result (self.new ≡ self.old) }
+    {
+        make_room(&mut self.columns, &mut self.groups, column_number(cell))?;
+        let slot = slot_of(alloc, &mut self.table, cell, content)?;
+        let code = code_at(self.groups.as_slice(), cell);
+        let used = used_at(self.columns.as_slice(), cell);
+        put(&mut self.columns, &mut self.groups, cell, slot);
+        give_back(&mut self.table, code);
+        self.len = self.len + used_at(self.columns.as_slice(), cell) - used;
+        Ok(())
+    }
+}

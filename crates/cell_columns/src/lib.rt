@@ -1,0 +1,9 @@
+//! The cells of a book as columns of slots, with the codes of their formulas and their groups.
+#![tactic(auto)]
+
+mod cells;
+mod columns;
+mod making;
+mod slots;
+
+pub use columns::{COLUMNS, CellColumns};
