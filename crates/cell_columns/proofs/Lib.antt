@@ -7,6 +7,10 @@
 -- Maps: lists of columns by what they are seen as.
 -- Same: codes that are the same. Setting: columns, codes and groups in which a cell is set.
 -- Nothing: columns that are empty.
+-- PutRows: slots that are put into neighbouring rows of a column.
+-- SetRows: neighbouring rows of a column that are set.
+-- Freeing: the uses of codes that go with groups.
+-- Among: how many of some rows have a code.
 -- Told: the cells of columns are those of a book, which slots decide.
 pub mod Orders
 pub mod Found
@@ -22,3 +26,7 @@ pub mod Maps
 pub mod Same
 pub mod Setting
 pub mod Nothing
+pub mod PutRows
+pub mod SetRows
+pub mod Freeing
+pub mod Among

@@ -1,6 +1,7 @@
 -- The uses of codes as slots come and go.
 use Rattle.std.proofs.Common.{◌≡◌, ◌≢◌, ℕ, suc, zero, ◌+◌, ◌-◌, ◌≤◌, ◌<◌, ◌==◌, Bool, true, false, cond, List, [], ◌∷◌, Option, Some, None, unwrap_or, refl, sym, ap, subst, ◌∙◌, arith}
-use Rattle.std.specs.Prelude.{IsSome, sum_by}
+use Rattle.std.specs.Prelude.{IsSome, replicate, sum_by}
+use Rattle.std.proofs.lemmas.List.Folds.{sum_by-replicate}
 use Rattle.std.proofs.lemmas.Bool.Decides.{Decides-eqb, nat_tests}
 use Rattle.calc_addr.specs.Places.{Place}
 use Rattle.calc_model.specs.declared.tree.Tree.{Tree}
@@ -18,7 +19,7 @@ use Rattle.block_column.specs.declared.slot.Slot.{Slot}
 use Rattle.block_column.specs.declared.slot.Slot.TheVariants as slot
 use Rattle.block_column.specs.Kinds.{is_filled}
 use Rattle.cell_columns.specs.Cells.{content_of}
-use Rattle.cell_columns.specs.Taken.{AreReturned, IsConstantSlot, IsSlotOf, IsTaken, KeepsForms}
+use Rattle.cell_columns.specs.Taken.{AreFreed, AreReturned, AreTaken, IsConstantSlot, IsSlotOf, IsTaken, KeepsForms}
 use Rattle.cell_columns.specs.Uses.{code_in, formula_of, use_of}
 use Rattle.cell_columns.proofs.Edited.{live}
 use Rattle.cell_columns.proofs.PutSlot.{unequal}
@@ -60,48 +61,50 @@ form_left codes id n form is now =
       | false ↦ λ some. refl
     ] (subst IsSome is now)
 
-module _ (old new : Codes) (id : ℕ) (some : 1 ≤ uses_at old id) (changes : Changes old new id (with_uses (form_at old id) (uses_at old id - 1))) where
-  fewer : (i : ℕ) → uses_at new i + use_of i (slot.Formula id) ≡ uses_at old i
+module _ (old new : Codes) (id n : ℕ) (was : IsLive old id) (some : n ≤ uses_at old id) (changes : Changes old new id (with_uses (form_at old id) (uses_at old id - n))) where
+  fewer : (i : ℕ) → uses_at new i + cond (i == id) n 0 ≡ uses_at old i
   fewer i =
-      elim (i == id) as (λ b. (i == id) ≡ b → uses_at new i + use_of i (slot.Formula id) ≡ uses_at old i) [
+      elim (i == id) as (λ b. (i == id) ≡ b → uses_at new i + cond b n 0 ≡ uses_at old i) [
         | true ↦ λ same.
-            let is : i ≡ id = (Decides-eqb i id).0 same in
-            subst (λ n. uses_at new n + use_of n (slot.Formula id) ≡ uses_at old n) (sym is)
-            (omega (arith, some, use_itself id, ap slot_uses changes.changed ∙ uses_left (form_at old id) (uses_at old id - 1)))
-        | false ↦ λ other. omega (arith, use_other i id other, ap slot_uses (changes.others i (unequal i id other)))
+            subst (λ k. uses_at new k + n ≡ uses_at old k) (sym ((Decides-eqb i id).0 same))
+            (omega (arith, some, ap slot_uses changes.changed ∙ uses_left (form_at old id) (uses_at old id - n)))
+        | false ↦ λ other. omega (arith, ap slot_uses (changes.others i (unequal i id other)))
       ] refl
 
   was_live : (i : ℕ) → IsLive new i → IsLive old i
   was_live i now =
       elim (i == id) as (λ b. (i == id) ≡ b → IsLive old i) [
-        | true ↦ λ same. subst (IsLive old) (sym ((Decides-eqb i id).0 same)) (live old id some)
+        | true ↦ λ same. subst (IsLive old) (sym ((Decides-eqb i id).0 same)) was
         | false ↦ λ other. subst IsSome (changes.others i (unequal i id other)) now
       ] refl
 
   forms_stay : KeepsForms old new
-  forms_stay i was now =
+  forms_stay i before now =
       elim (i == id) as (λ b. (i == id) ≡ b → form_at new i ≡ form_at old i) [
         | true ↦ λ same.
-            let is : i ≡ id = (Decides-eqb i id).0 same in
-            subst (λ n. IsLive new n → form_at new n ≡ form_at old n) (sym is) (form_left new id (uses_at old id - 1) (form_at old id) changes.changed) now
+            subst (λ k. IsLive new k → form_at new k ≡ form_at old k) (sym ((Decides-eqb i id).0 same)) (form_left new id (uses_at old id - n) (form_at old id) changes.changed) now
         | false ↦ λ other. ap form_of (changes.others i (unequal i id other))
       ] refl
 
-  returned_id : AreReturned old new (slot.Formula id ∷ [])
-  returned_id = record {
-    uses = λ i. omega (arith, fewer i, single (use_of i) (slot.Formula id));
-    total = omega (arith, some, uses_changed old new id (with_uses (form_at old id) (uses_at old id - 1)) changes, uses_left (form_at old id) (uses_at old id - 1));
+  -- so many uses of one code go
+  pub freed_uses : AreFreed old new (λ i. cond (i == id) n 0) n
+  freed_uses = record {
+    uses = fewer;
+    total = omega (arith, some, uses_changed old new id (with_uses (form_at old id) (uses_at old id - n)) changes, uses_left (form_at old id) (uses_at old id - n));
     live = was_live;
     forms = forms_stay;
   }
 
-  pub returned_one : (x : Slot) → code_in x ≡ Some id → AreReturned old new (x ∷ [])
-  returned_one slot.Empty is = cc
-  returned_one (slot.Number n) is = cc
-  returned_one (slot.Words text) is = cc
-  returned_one (slot.Bad fault) is = cc
-  returned_one (slot.Raw text) is = cc
-  returned_one (slot.Formula other) is = subst (λ i. AreReturned old new (slot.Formula i ∷ [])) (sym (same_id other id is)) returned_id
+pub returned_one : (old new : Codes) (id : ℕ) → 1 ≤ uses_at old id → Changes old new id (with_uses (form_at old id) (uses_at old id - 1)) → (x : Slot) → code_in x ≡ Some id → AreReturned old new (x ∷ [])
+returned_one old new id some changes slot.Empty is = cc
+returned_one old new id some changes (slot.Number n) is = cc
+returned_one old new id some changes (slot.Words text) is = cc
+returned_one old new id some changes (slot.Bad fault) is = cc
+returned_one old new id some changes (slot.Raw text) is = cc
+returned_one old new id some changes (slot.Formula other) is =
+    subst (λ i. AreReturned old new (slot.Formula i ∷ [])) (sym (same_id other id is))
+    (let freed : AreFreed old new (λ i. cond (i == id) 1 0) 1 = freed_uses old new id 1 (live old id some) some changes in
+    record { uses = λ i. omega (arith, freed.uses i, single (use_of i) (slot.Formula id)); total = omega (arith, freed.total); live = freed.live; forms = freed.forms })
 
 pub returned_none : (codes : Codes) (x : Slot) → code_in x ≡ None → AreReturned codes codes (x ∷ [])
 returned_none codes slot.Empty is = record { uses = λ i. omega arith; total = omega arith; live = λ i now. now; forms = λ i was now. refl }
@@ -181,4 +184,22 @@ plain_slot codes home x none fit = record {
   fit = fit;
   coded = λ id formula. let not : Some id ≡ None = ap code_in (sym formula) ∙ none in cc;
   taken = taken_none codes x none;
+}
+
+-- empty slots use no code
+pub taken_empty : (codes : Codes) (n : ℕ) → AreTaken codes codes (replicate n slot.Empty)
+taken_empty codes n = record {
+  uses = λ id. omega (arith, sum_by-replicate (use_of id) n slot.Empty);
+  total = omega (arith, sum_by-replicate formula_of n slot.Empty);
+  live = λ id now. now;
+  forms = λ id was now. refl;
+}
+
+-- uses that go after others
+pub freed_then : (a b c : Codes) (f g : ℕ → ℕ) (m n : ℕ) → AreFreed a b f m → AreFreed b c g n → AreFreed a c (λ id. f id + g id) (m + n)
+freed_then a b c f g m n first next = record {
+  uses = λ id. omega (arith, first.uses id, next.uses id);
+  total = omega (arith, first.total, next.total);
+  live = λ id now. first.live id (next.live id now);
+  forms = λ id was now. next.forms id (next.live id now) now ∙ first.forms id was (next.live id now);
 }

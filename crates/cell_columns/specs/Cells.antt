@@ -1,6 +1,6 @@
 -- The columns of sixteen sheets as the cells of a book. The columns are numbered from 0, those of the first sheet
 -- first, and each has the slots of its rows.
-use Rattle.std.specs.Prelude.{ℕ, ◌+◌, ◌-◌, ◌*◌, ◌/◌, ◌%◌, Option, List, [], ◌∷◌, ◌++◌, if◌then◌else◌, slice_index_or, slice_set}
+use Rattle.std.specs.Prelude.{ℕ, ◌+◌, ◌-◌, ◌*◌, ◌/◌, ◌%◌, ◌==◌, ◌&&◌, nat_le, nat_lt, Bool, Option, List, [], ◌∷◌, ◌++◌, length, take, drop, if◌then◌else◌, slice_index_or, slice_set}
 use Rattle.calc_addr.specs.declared.cell.TheConstants.{LAST_COL}
 use Rattle.calc_addr.specs.Places.{Place}
 use Rattle.calc_model.specs.declared.content.Content.{Content}
@@ -63,3 +63,15 @@ with_slot columns cell x = slice_set columns (column_number cell) (slice_set (co
 -- the codes of columns with that one, or none, in the cell
 abbrev pub with_code : List (List (Option ℕ)) → Place → Option ℕ → List (List (Option ℕ))
 with_code groups cell code = slice_set groups (column_number cell) (slice_set (slice_index_or groups (column_number cell) []) (cell.row - 1) code)
+
+-- the rows behind the first a hold these slots
+abbrev pub rows_put : {T : Type 0} → ℕ → List T → List T → List T
+rows_put a xs rows = take a rows ++ (xs ++ drop (a + length xs) rows)
+
+-- the columns with these slots in the rows of a column behind the first a
+abbrev pub with_rows : List Column → ℕ → ℕ → Column → List Column
+with_rows columns number a xs = slice_set columns number (rows_put a xs (column_at columns number))
+
+-- the cell lies in these rows of the column
+abbrev pub is_in_rows : ℕ → ℕ → Column → Place → Bool
+is_in_rows number a xs q = (column_number q == number) && nat_le a (q.row - 1) && nat_lt (q.row - 1) (a + length xs)

@@ -3,8 +3,10 @@
 -- Sheets: columns and codes that are those of a book.
 -- Lent: what the columns and the groups are seen as.
 -- Taken: how the uses of codes change.
+-- Freed: the formulas of neighbouring rows by the groups of their column.
 pub mod Cells
 pub mod Uses
 pub mod Sheets
 pub mod Lent
 pub mod Taken
+pub mod Freed

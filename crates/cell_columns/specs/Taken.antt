@@ -23,12 +23,23 @@ pub record IsTaken (old new : Codes) (x : Slot) : Type 0 where
   pub live : (id : ℕ) → IsLive old id → IsLive new id
   pub forms : KeepsForms old new
 
--- These slots don't use their codes any more.
-pub record AreReturned (old new : Codes) (slots : Column) : Type 0 where
-  pub uses : (id : ℕ) → uses_at new id + sum_by (use_of id) slots ≡ uses_at old id
-  pub total : total_uses new + sum_by formula_of slots ≡ total_uses old
+-- These slots more use their codes.
+pub record AreTaken (old new : Codes) (slots : Column) : Type 0 where
+  pub uses : (id : ℕ) → uses_at new id ≡ uses_at old id + sum_by (use_of id) slots
+  pub total : total_uses new ≡ total_uses old + sum_by formula_of slots
+  pub live : (id : ℕ) → IsLive old id → IsLive new id
+  pub forms : KeepsForms old new
+
+-- Codes have that many uses less, in all so many.
+pub record AreFreed (old new : Codes) (freed : ℕ → ℕ) (all : ℕ) : Type 0 where
+  pub uses : (id : ℕ) → uses_at new id + freed id ≡ uses_at old id
+  pub total : total_uses new + all ≡ total_uses old
   pub live : (id : ℕ) → IsLive new id → IsLive old id
   pub forms : KeepsForms old new
+
+-- These slots don't use their codes any more.
+abbrev pub AreReturned : Codes → Codes → Column → Type 0
+AreReturned old new slots = AreFreed old new (λ id. sum_by (use_of id) slots) (sum_by formula_of slots)
 
 -- The slot holds the content in the cell, and uses its code.
 pub record IsSlotOf (old new : Codes) (home : Place) (content : Content) (x : Slot) : Type 0 where

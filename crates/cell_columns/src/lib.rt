@@ -4,6 +4,7 @@
 mod cells;
 mod columns;
 mod making;
+mod release;
 mod slots;
 
 pub use columns::{COLUMNS, CellColumns};
