@@ -11,6 +11,9 @@
 -- SetRows: neighbouring rows of a column that are set.
 -- Freeing: the uses of codes that go with groups.
 -- Among: how many of some rows have a code.
+-- EmptyRows: rows of a column that are emptied.
+-- Rooms: columns that are emptied one after the other.
+-- Clearing: a column that is emptied between two rows, with its groups and codes.
 -- Told: the cells of columns are those of a book, which slots decide.
 pub mod Orders
 pub mod Found
@@ -30,3 +33,6 @@ pub mod PutRows
 pub mod SetRows
 pub mod Freeing
 pub mod Among
+pub mod EmptyRows
+pub mod Rooms
+pub mod Clearing

@@ -44,7 +44,7 @@ map_replicate f zero x = refl
 map_replicate f (suc n) x = ap (λ t. f x ∷ t) (map_replicate f n x)
 
 -- what holds of a default and of an element that is repeated holds of each
-each_of : {X : Type 0} (P : X → Type 0) (n i : ℕ) (x d : X) → P d → P x → P (slice_index_or (replicate n x) i d)
+pub each_of : {X : Type 0} (P : X → Type 0) (n i : ℕ) (x d : X) → P d → P x → P (slice_index_or (replicate n x) i d)
 each_of P zero i x d none some = none
 each_of P (suc n) zero x d none some = some
 each_of P (suc n) (suc i) x d none some = each_of P n i x d none some

@@ -4,9 +4,11 @@
 -- Lent: what the columns and the groups are seen as.
 -- Taken: how the uses of codes change.
 -- Freed: the formulas of neighbouring rows by the groups of their column.
+-- Emptied: cells without those of some rows in neighbouring columns.
 pub mod Cells
 pub mod Uses
 pub mod Sheets
 pub mod Lent
 pub mod Taken
 pub mod Freed
+pub mod Emptied

@@ -1,5 +1,5 @@
-ghost use Rattle.std.specs.Prelude.{◌≡◌, ◌-◌, ◌≤◌, ◌<◌, ℕ, List, Option, Some, OnOk, length, count_by, slice_get, slice_index_or};
-ghost use Rattle.calc_addr.specs.Places.{IsPlace};
+ghost use Rattle.std.specs.Prelude.{◌≡◌, ◌≢◌, ◌+◌, ◌-◌, ◌*◌, ◌≤◌, ◌<◌, ℕ, List, Option, Some, OnOk, length, count_by, slice_get, slice_index_or};
+ghost use Rattle.calc_addr.specs.Places.{IsPlace, IsRectangle};
 ghost use Rattle.block_column.specs.SlotRows.{SlotRows};
 ghost use Rattle.block_column.specs.Kinds.{is_filled};
 ghost use Rattle.formula_groups.specs.GroupRows.{GroupRows};
@@ -10,7 +10,7 @@ ghost use Rattle.cell_columns.specs.Uses.{code_in};
 use crate::columns::COLUMNS;
 use crate::slots::put_slot;
 use block_column::{BlockColumn, Slot};
-use calc_addr::{Cell, NoMemory};
+use calc_addr::{Area, Cell, LAST_COL, NoMemory};
 use calc_model::CodeId;
 use formula_groups::GroupColumn;
 
@@ -23,6 +23,16 @@ pub(crate) fn column_number(cell: Cell) -> usize
     1024 * usize::from(cell.sheet) + usize::from(cell.col) - 1
 }
 
+/// The number of an area's first column among all, and that behind its last.
+pub(crate) fn numbers_of(area: Area) -> (usize, usize)
+    ensures from { result.0 ≡ area.sheet * LAST_COL + (area.first_col - 1) }
+    ensures behind { result.1 ≡ result.0 + (area.last_col + 1 - area.first_col) }
+    ensures area { IsRectangle area }
+{
+    let from = 1024 * usize::from(area.sheet) + usize::from(area.first_col) - 1;
+    (from, from + usize::from(area.last_col - area.first_col) + 1)
+}
+
 /// Makes room for a slot in a column and for a code in its groups.
 pub(crate) fn make_room(
     columns: &mut Vec<BlockColumn>,
@@ -33,6 +43,10 @@ pub(crate) fn make_room(
     requires groups { number < length groups.old.items }
     ensures slots { slots_of columns.new.items ≡ slots_of columns.old.items }
     ensures codes { codes_of groups.new.items ≡ codes_of groups.old.items }
+    ensures other_columns { (n : ℕ) → n ≢ number → (d : SlotRows) →
+        slice_index_or columns.new.items n d ≡ slice_index_or columns.old.items n d }
+    ensures other_groups { (n : ℕ) → n ≢ number → (d : GroupRows) →
+        slice_index_or groups.new.items n d ≡ slice_index_or groups.old.items n d }
     ensures columns_room { OnOk result ((d : SlotRows) →
         1 ≤ (slice_index_or columns.new.items number d).spare) }
     ensures groups_room { OnOk result ((d : GroupRows) →

@@ -1,8 +1,9 @@
-use crate::cells::{code_at, column_number, make_room, put, used_at};
+use crate::cells::{code_at, column_number, make_room, numbers_of, put, used_at};
+use crate::emptying::{clear_columns, make_rooms};
 use crate::making::{empty_columns, empty_groups};
 use crate::slots::{give_back, slot_of};
 use block_column::BlockColumn;
-use calc_addr::{Cell, NoMemory};
+use calc_addr::{Area, Cell, NoMemory};
 use calc_model::{Content, MOST_CELLS};
 use formula_code::CodeTable;
 use formula_groups::GroupColumn;
@@ -43,6 +44,7 @@ impl Model for CellColumns {
 impl CellColumns {
     ghost use Rattle.std.specs.Prelude.{◌≡◌, ◌≤◌, [], length, IfOk, OnErr, OnOk};
     ghost use Rattle.calc_model.specs.Books.{with_content};
+    ghost use Rattle.calc_model.specs.CellEdits.{without_area};
 
     /// No cell. It makes all columns.
     pub fn new(alloc: Global) -> Result<CellColumns, NoMemory>
@@ -79,6 +81,27 @@ impl CellColumns {
         put(&mut self.columns, &mut self.groups, cell, slot);
         give_back(&mut self.table, code);
         self.len = self.len + used_at(self.columns.as_slice(), cell) - used;
+        Ok(())
+    }
+
+    /// Empties the cells of an area. It is linear in the groups of its columns and costs what the emptying of
+    /// rows in each of them does. Where memory is refused, it changes nothing.
+    pub fn clear(&mut self, area: Area) -> Result<(), NoMemory>
+        ensures cells { OnOk result (self.new ≡ without_area self.old area) }
+        ensures kept { OnErr result (self.new ≡ self.old) }
+    {
+        let (from, behind) = numbers_of(area);
+        make_rooms(&mut self.columns, &mut self.groups, from, behind)?;
+        self.len = clear_columns(
+            &mut self.columns,
+            &mut self.groups,
+            &mut self.table,
+            self.len,
+            from,
+            behind,
+            area.first_row,
+            area.last_row,
+        );
         Ok(())
     }
 }

@@ -3,6 +3,7 @@
 
 mod cells;
 mod columns;
+mod emptying;
 mod making;
 mod release;
 mod slots;
