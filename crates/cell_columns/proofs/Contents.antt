@@ -13,8 +13,9 @@ use Rattle.calc_model.specs.CellEdits.{CellEntries}
 use Rattle.calc_model.proofs.Areas.{both_true}
 use Rattle.calc_model.proofs.Places.{places_total, same_places}
 use Rattle.calc_model.proofs.Reached.{same_cell}
+use Rattle.cell_columns.specs.Cells.{cells_only}
 use Rattle.cell_columns.proofs.Found.{not_before}
-use Rattle.cell_columns.proofs.Told.{cells_only}
+
 
 insert_is_put : (es : CellEntries) (cell : Place) (content : Content) → insert_entry place_cmp es cell content ≡ put place_cmp cell content es
 insert_is_put [] cell content = refl

@@ -19,7 +19,7 @@ use Rattle.formula_code.specs.Codes.{Codes}
 use Rattle.block_column.specs.declared.slot.Slot.{Slot}
 use Rattle.block_column.specs.declared.slot.Slot.TheVariants as slot
 use Rattle.cell_columns.specs.declared.columns.TheConstants.{COLUMNS}
-use Rattle.cell_columns.specs.Cells.{Column, cells_of, column_at, column_number, content_of, slot_at, with_rows}
+use Rattle.cell_columns.specs.Cells.{Column, cells_of, cells_only, column_at, column_number, content_of, slot_at, with_rows}
 use Rattle.cell_columns.specs.Emptied.{lies_in, without_rows}
 use Rattle.cell_columns.specs.Sheets.{AreSheets}
 use Rattle.cell_columns.specs.Taken.{AreReturned}
@@ -29,7 +29,7 @@ use Rattle.cell_columns.proofs.Edited.{IsFit}
 use Rattle.cell_columns.proofs.Nothing.{each_of}
 use Rattle.cell_columns.proofs.PutRows.{summed_rows}
 use Rattle.cell_columns.proofs.SetRows.{each_content, sheets_put}
-use Rattle.cell_columns.proofs.Told.{cells_only, entries_are, holds, is_book, same_cells}
+use Rattle.cell_columns.proofs.Told.{entries_are, holds, is_book, same_cells}
 use Rattle.cell_columns.proofs.Uses.{taken_empty}
 
 -- cells that don't pass hold nothing

@@ -22,7 +22,7 @@ use Rattle.block_column.specs.declared.slot.Slot.{Slot}
 use Rattle.block_column.specs.declared.slot.Slot.TheVariants as slot
 use Rattle.block_column.specs.Kinds.{is_filled}
 use Rattle.cell_columns.specs.declared.columns.TheConstants.{COLUMNS}
-use Rattle.cell_columns.specs.Cells.{Column, cells_of, column_at, content_of, slot_at, with_slot}
+use Rattle.cell_columns.specs.Cells.{Column, cells_of, cells_only, column_at, content_of, slot_at, with_slot}
 use Rattle.cell_columns.specs.Sheets.{AreSheets}
 use Rattle.cell_columns.specs.Taken.{AreReturned, IsSlotOf, KeepsForms}
 use Rattle.cell_columns.specs.Uses.{cell_of, formula_of, formulas_in, summed, use_of, uses_in}
@@ -30,7 +30,7 @@ use Rattle.cell_columns.proofs.Orders.{in_order}
 use Rattle.cell_columns.proofs.Edited.{IsFit, live, same_content, stands, still_sheets}
 use Rattle.cell_columns.proofs.PutSlot.{at_cell, elsewhere, put_all, put_rows, summed_put}
 use Rattle.cell_columns.proofs.Contents.{set_content}
-use Rattle.cell_columns.proofs.Told.{cells_only, holds, is_book, place_test, same_cells}
+use Rattle.cell_columns.proofs.Told.{holds, is_book, place_test, same_cells}
 
 module _ (old mid new : Codes) (before : List Column) (was : AreSheets old before) (cell : Place) (is : IsPlace cell) (content : Content) (x : Slot) (put : IsSlotOf old mid cell content x) (returned : AreReturned mid new (slot_at before cell ∷ [])) where
   after : List Column

@@ -20,13 +20,10 @@ use Rattle.block_column.specs.declared.slot.Slot.{Slot}
 use Rattle.block_column.specs.declared.slot.Slot.TheVariants as slot
 use Rattle.block_column.specs.Kinds.{is_filled}
 use Rattle.cell_columns.specs.declared.columns.TheConstants.{COLUMNS}
-use Rattle.cell_columns.specs.Cells.{Column, cell_in, cells_below, cells_from, cells_of, column_at, column_number, content_of, slot_at}
+use Rattle.cell_columns.specs.Cells.{Column, cell_in, cells_below, cells_from, cells_of, cells_only, column_at, column_number, content_of, slot_at}
 use Rattle.cell_columns.specs.Sheets.{AreSheets}
 use Rattle.cell_columns.proofs.Orders.{in_order}
 use Rattle.cell_columns.proofs.Found.{in_column, shown}
-
-abbrev pub cells_only : CellEntries → Book
-cells_only cells = record { cells = cells; names = [] }
 
 place_is : (q : Place) → IsPlace q → q ≡ cell_in (0 + column_number q) (1 + (q.row - 1))
 place_is q is =

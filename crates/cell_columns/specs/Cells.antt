@@ -6,6 +6,7 @@ use Rattle.calc_addr.specs.Places.{Place}
 use Rattle.calc_model.specs.declared.content.Content.{Content}
 use Rattle.calc_model.specs.declared.content.Content.TheVariants.{Empty, Constant, Formula, Raw}
 use Rattle.calc_model.specs.declared.value.Value.TheVariants as value
+use Rattle.calc_model.specs.Books.{Book}
 use Rattle.calc_model.specs.CellEdits.{CellEntries}
 use Rattle.formula_code.specs.Codes.{Codes, tree_at}
 use Rattle.block_column.specs.declared.slot.Slot.{Slot}
@@ -75,3 +76,7 @@ with_rows columns number a xs = slice_set columns number (rows_put a xs (column_
 -- the cell lies in these rows of the column
 abbrev pub is_in_rows : ℕ → ℕ → Column → Place → Bool
 is_in_rows number a xs q = (column_number q == number) && nat_le a (q.row - 1) && nat_lt (q.row - 1) (a + length xs)
+
+-- the book of these cells, without names
+abbrev pub cells_only : CellEntries → Book
+cells_only cells = record { cells = cells; names = [] }

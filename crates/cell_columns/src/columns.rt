@@ -1,6 +1,7 @@
 use crate::cells::{code_at, column_number, make_room, numbers_of, put, used_at};
 use crate::emptying::{clear_columns, make_rooms};
 use crate::making::{empty_columns, empty_groups};
+use crate::reading::content_at;
 use crate::slots::{give_back, slot_of};
 use block_column::BlockColumn;
 use calc_addr::{Area, Cell, NoMemory};
@@ -43,7 +44,8 @@ impl Model for CellColumns {
 
 impl CellColumns {
     ghost use Rattle.std.specs.Prelude.{◌≡◌, ◌≤◌, [], length, IfOk, OnErr, OnOk};
-    ghost use Rattle.calc_model.specs.Books.{with_content};
+    ghost use Rattle.calc_model.specs.Books.{content_at, with_content};
+    ghost use Rattle.cell_columns.specs.Cells.{cells_only};
     ghost use Rattle.calc_model.specs.CellEdits.{without_area};
 
     /// No cell. It makes all columns.
@@ -103,5 +105,12 @@ impl CellColumns {
             area.last_row,
         );
         Ok(())
+    }
+
+    /// What a cell holds. It takes the logarithm of the blocks of its column, and is linear in the content.
+    pub fn content(&self, alloc: Global, cell: Cell) -> Result<Content, NoMemory>
+        ensures { IfOk result (λ content. content ≡ content_at (cells_only self.now) cell) }
+    {
+        content_at(alloc, self.columns.as_slice(), &self.table, cell)
     }
 }

@@ -5,6 +5,7 @@ mod cells;
 mod columns;
 mod emptying;
 mod making;
+mod reading;
 mod release;
 mod slots;
 
