@@ -1,5 +1,5 @@
 -- How many of some rows have a code, by their groups and by their slots.
-use Rattle.std.proofs.Common.{◌≡◌, ℕ, suc, zero, ◌+◌, ◌-◌, ◌≤◌, ◌<◌, ◌==◌, ◌&&◌, nat_le, max, min, Bool, true, false, cond, List, [], ◌∷◌, length, take, drop, map, Option, Some, None, refl, sym, ap, subst, ◌∙◌, arith}
+use Rattle.std.proofs.Common.{◌≡◌, ℕ, suc, zero, ◌+◌, ◌-◌, ◌≤◌, ◌<◌, ◌==◌, ◌&&◌, nat_le, max, min, Bool, true, false, cond, List, [], ◌∷◌, take, drop, map, Option, Some, None, refl, sym, ap, ◌∙◌, arith}
 use Rattle.std.specs.Prelude.{sum_by}
 use Rattle.std.proofs.lemmas.Bool.Decides.{Decides-eqb, nat_tests}
 use Rattle.std.proofs.lemmas.List.Sums.{sum_by-cons}
@@ -53,7 +53,7 @@ module _ (counts : ℕ → Bool) (first last : ℕ) (order : first ≤ last) whe
         | true ↦ λ is.
             let parts = both_true (r.last + 1 == x.first) (same_code r.key x.key) is in
             let sum : weight (record r { last = x.last }) ≡ weight r + weight x =
-                both_weights r x ((Decides-eqb r.key x.key).0 parts.1) (over_both r x ((Decides-eqb (r.last + 1) x.first).0 parts.0) from rise.1) in
+            both_weights r x ((Decides-eqb r.key x.key).0 parts.1) (over_both r x ((Decides-eqb (r.last + 1) x.first).0 parts.0) from rise.1) in
             omega (arith, sum, sum_by-cons weight (record r { last = x.last }) t, sum_by-cons weight x t)
         | false ↦ λ _. sum_by-cons weight r (x ∷ t)
       ] refl

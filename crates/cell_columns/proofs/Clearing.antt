@@ -1,19 +1,16 @@
 -- A column that is emptied between two rows, with its groups and codes.
-use Rattle.std.proofs.Common.{◌≡◌, ℕ, suc, zero, ◌+◌, ◌-◌, ◌≤◌, ◌<◌, List, [], ◌∷◌, ◌++◌, length, take, drop, map, not, replicate, Option, None, refl, sym, ap, subst, ◌∙◌, arith}
+use Rattle.std.proofs.Common.{◌≡◌, ℕ, suc, zero, ◌+◌, ◌-◌, ◌≤◌, ◌<◌, List, [], ◌∷◌, ◌++◌, length, take, drop, map, not, replicate, None, refl, sym, ap, subst, ◌∙◌, arith}
 use Rattle.std.specs.Prelude.{count_by, slice_index_or, slice_set, sum_by}
 use Rattle.std.proofs.lemmas.List.{length-replicate}
 use Rattle.std.proofs.lemmas.List.Folds.{sum_by-replicate}
 use Rattle.std.proofs.lemmas.List.Sums.{get_or-le-sum_by, sum_by-take-drop, sum_by-take-le}
 use Rattle.calc_addr.specs.declared.cell.TheConstants.{LAST_ROW}
-use Rattle.calc_model.specs.declared.limits.TheConstants.{MOST_CELLS}
-use Rattle.calc_model.specs.CellEdits.{CellEntries}
 use Rattle.calc_model.proofs.EntriesMoved.{length-filter}
 use Rattle.run_tables.specs.Rows.{AreRows, rows_set}
 use Rattle.formula_code.specs.Codes.{Codes, uses_at}
 use Rattle.formula_groups.specs.declared.group.Group.{Group}
 use Rattle.formula_groups.specs.GroupRows.{GroupRows}
 use Rattle.formula_groups.specs.Groups.{groups_of}
-use Rattle.block_column.specs.declared.slot.Slot.{Slot}
 use Rattle.block_column.specs.declared.slot.Slot.TheVariants as slot
 use Rattle.block_column.specs.Kinds.{is_filled}
 use Rattle.block_column.specs.SlotRows.{SlotRows}
@@ -24,7 +21,7 @@ use Rattle.cell_columns.specs.Freed.{formulas_among, uses_among}
 use Rattle.cell_columns.specs.Lent.{AreColumns, codes_of, slots_of}
 use Rattle.cell_columns.specs.Sheets.{AreSheets}
 use Rattle.cell_columns.specs.Taken.{AreFreed, AreReturned}
-use Rattle.cell_columns.specs.Uses.{cell_of, code_in, codes_in, summed, use_of, uses_in}
+use Rattle.cell_columns.specs.Uses.{cell_of, code_in, codes_in, summed, use_of}
 use Rattle.cell_columns.proofs.Among.{formulas_alike, uses_alike}
 use Rattle.cell_columns.proofs.Counted.{counted}
 use Rattle.cell_columns.proofs.EmptyRows.{cells_emptied, sheets_emptied}
@@ -103,12 +100,14 @@ module _ (codes : Codes) (columns : List SlotRows) (groups : List GroupRows) (le
   -- the uses by the groups are there
   pub uses_there : (gs : List Group) → gs ≡ groups_of g.entries → (id : ℕ) → uses_among id first last gs ≤ uses_at codes id
   uses_there gs are id =
-      omega (arith,
-      uses_by_slots id gs are,
-      sum_by-take-le (use_of id) (drop (first - 1) (column_at (slots_of columns) number)) (last + 1 - first),
-      sum_by-take-drop (use_of id) (column_at (slots_of columns) number) (first - 1),
-      get_or-le-sum_by (λ c. sum_by (use_of id) c) (slots_of columns) number [] (subst (λ n. number < n) (sym was.sheets.all_columns) among),
-      was.sheets.used id)
+      omega (
+        arith,
+        uses_by_slots id gs are,
+        sum_by-take-le (use_of id) (drop (first - 1) (column_at (slots_of columns) number)) (last + 1 - first),
+        sum_by-take-drop (use_of id) (column_at (slots_of columns) number) (first - 1),
+        get_or-le-sum_by (λ c. sum_by (use_of id) c) (slots_of columns) number [] (subst (λ n. number < n) (sym was.sheets.all_columns) among),
+        was.sheets.used id,
+      )
 
   pub returned_by : (new : Codes) (gs : List Group) → gs ≡ groups_of g.entries → AreFreed codes new (λ id. uses_among id first last gs) (formulas_among first last gs) → AreReturned codes new (take (last + 1 - first) (drop (first - 1) (column_at (slots_of columns) number)))
   returned_by new gs are freed = record {
@@ -148,17 +147,24 @@ module _ (codes : Codes) (columns : List SlotRows) (groups : List GroupRows) (le
 
     pub less : used_in (slice_set columns number left) + sum_by cell_of (take (length blank) (drop (first - 1) (column_at (slots_of columns) number))) ≡ used_in columns
     less =
-        omega (arith,
-        sum_rows (first - 1) blank (column_at (slots_of columns) number) (subst (λ n. first - 1 + length blank ≤ n) (sym (was.sheets.all_rows number among)) fits) cell_of,
-        sum_by-replicate cell_of (last + 1 - first) slot.Empty,
-        count_is_sum (column_at (slots_of columns) number),
-        count_is_sum (column_at (slots_of (slice_set columns number left)) number),
-        ap (λ cs. sum_by cell_of (column_at cs number)) slots_after ∙ ap (sum_by cell_of) (column_put (slots_of columns) was.sheets.all_columns was.sheets.all_rows number among (first - 1) blank fits))
+        omega (
+          arith,
+          sum_rows (first - 1) blank (column_at (slots_of columns) number) (subst (λ n. first - 1 + length blank ≤ n) (sym (was.sheets.all_rows number among)) fits) cell_of,
+          sum_by-replicate cell_of (last + 1 - first) slot.Empty,
+          count_is_sum (column_at (slots_of columns) number),
+          count_is_sum (column_at (slots_of (slice_set columns number left)) number),
+          ap (λ cs. sum_by cell_of (column_at cs number)) slots_after ∙ ap (sum_by cell_of) (column_put (slots_of columns) was.sheets.all_columns was.sheets.all_rows number among (first - 1) blank fits),
+        )
 
     pub used_few : used_in columns ≤ len
     used_few =
-        omega (arith, was.counted, counted codes (slots_of columns), count_is_sum (column_at (slots_of columns) number),
-        get_or-le-sum_by (λ c. sum_by cell_of c) (slots_of columns) number [] (subst (λ n. number < n) (sym was.sheets.all_columns) among))
+        omega (
+          arith,
+          was.counted,
+          counted codes (slots_of columns),
+          count_is_sum (column_at (slots_of columns) number),
+          get_or-le-sum_by (λ c. sum_by cell_of c) (slots_of columns) number [] (subst (λ n. number < n) (sym was.sheets.all_columns) among),
+        )
 
     pub still_columns : AreColumns new (slice_set columns number left) (slice_set groups number grouping) (len + used_in (slice_set columns number left) - used_in columns)
     still_columns = record {
@@ -166,7 +172,15 @@ module _ (codes : Codes) (columns : List SlotRows) (groups : List GroupRows) (le
       grouped = codes_after ∙ ap (map codes_in) (sym slots_after);
       few = omega (arith, ap length cells_left, length-filter (λ e. not (lies_in number (number + 1) first last e.0)) (cells_of codes (slots_of columns)), was.few);
       counted =
-        omega (arith, was.counted, less, used_few, counted codes (slots_of columns), counted new (slots_of (slice_set columns number left)), ap (summed cell_of) slots_after,
-        summed_rows (slots_of columns) was.sheets.all_columns was.sheets.all_rows number among (first - 1) blank fits cell_of,
-        sum_by-replicate cell_of (last + 1 - first) slot.Empty);
+          omega (
+            arith,
+            was.counted,
+            less,
+            used_few,
+            counted codes (slots_of columns),
+            counted new (slots_of (slice_set columns number left)),
+            ap (summed cell_of) slots_after,
+            summed_rows (slots_of columns) was.sheets.all_columns was.sheets.all_rows number among (first - 1) blank fits cell_of,
+            sum_by-replicate cell_of (last + 1 - first) slot.Empty,
+          );
     }

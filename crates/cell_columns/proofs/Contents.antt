@@ -1,21 +1,20 @@
 -- What the cells of a book hold after one is set.
-use Rattle.std.proofs.Common.{◌≡◌, Bool, true, false, cond, List, [], ◌∷◌, Option, Some, None, unwrap_or, refl, sym, ap, subst, ◌∙◌}
+use Rattle.std.proofs.Common.{◌≡◌, Bool, true, false, cond, [], ◌∷◌, Option, Some, None, unwrap_or, refl, sym, ap, subst, ◌∙◌}
 use Rattle.std.specs.Map.{remove_entry}
 use Rattle.std.specs.BTreeMap.{insert_entry, is_at}
-use Rattle.std.specs.Ordering.{eq_by_cmp, is_eq, is_lt, match_ordering}
+use Rattle.std.specs.Ordering.{eq_by_cmp, match_ordering}
 use Rattle.std.specs.FinMap.Entries.{below_all, by_order, find, find-put, is_sorted, put}
 use Rattle.std.specs.declared.cmp.Ordering.TheVariants.{Less, Equal, Greater}
 use Rattle.calc_addr.specs.Places.{Place, place_cmp}
 use Rattle.calc_model.specs.declared.content.Content.{Content}
 use Rattle.calc_model.specs.declared.content.Content.TheVariants.{Empty, Constant, Formula, Raw}
-use Rattle.calc_model.specs.Books.{content_at, is_held, with_content}
+use Rattle.calc_model.specs.Books.{content_at, with_content}
 use Rattle.calc_model.specs.CellEdits.{CellEntries}
 use Rattle.calc_model.proofs.Areas.{both_true}
 use Rattle.calc_model.proofs.Places.{places_total, same_places}
 use Rattle.calc_model.proofs.Reached.{same_cell}
 use Rattle.cell_columns.specs.Cells.{cells_only}
 use Rattle.cell_columns.proofs.Found.{not_before}
-
 
 insert_is_put : (es : CellEntries) (cell : Place) (content : Content) → insert_entry place_cmp es cell content ≡ put place_cmp cell content es
 insert_is_put [] cell content = refl

@@ -1,14 +1,13 @@
 -- Columns and codes stay those of a book where edited slots have codes of their cells.
-use Rattle.std.proofs.Common.{◌≡◌, ℕ, suc, zero, ◌+◌, ◌-◌, ◌*◌, ◌≤◌, ◌<◌, Bool, true, false, cond, List, [], ◌∷◌, length, map, Option, Some, None, refl, sym, ap, subst, ◌∙◌, ◌⊎◌, inl, inr, arith}
-use Rattle.std.specs.Prelude.{IsSome, slice_index_or, sum_by}
+use Rattle.std.proofs.Common.{◌≡◌, ℕ, ◌-◌, ◌≤◌, ◌<◌, true, List, [], length, Some, None, refl, sym, ap, subst, ◌∙◌, ◌⊎◌, inl, inr, arith}
+use Rattle.std.specs.Prelude.{IsSome, sum_by}
 use Rattle.std.proofs.lemmas.List.Sums.{get_or-le-sum_by}
 use Rattle.std.proofs.lemmas.Bool.Decides.{nat_tests}
-use Rattle.calc_addr.specs.declared.cell.TheConstants.{LAST_COL, LAST_ROW, LAST_SHEET}
+use Rattle.calc_addr.specs.declared.cell.TheConstants.{LAST_ROW}
 use Rattle.calc_addr.specs.Places.{IsPlace, Place}
 use Rattle.calc_model.specs.Books.{is_content}
-use Rattle.calc_model.specs.declared.content.Content.{Content}
 use Rattle.calc_model.specs.declared.content.Content.TheVariants as content
-use Rattle.formula_code.specs.Codes.{Code, Codes, IsCodeAt, IsLive, code_at, form_at, has_valid_references, slot_uses, total_uses, tree_at, uses_at}
+use Rattle.formula_code.specs.Codes.{Codes, IsCodeAt, IsLive, code_at, form_at, has_valid_references, slot_uses, total_uses, uses_at}
 use Rattle.formula_code.specs.Relative.{absolute}
 use Rattle.block_column.specs.declared.slot.Slot.{Slot}
 use Rattle.block_column.specs.declared.slot.Slot.TheVariants as slot
@@ -44,9 +43,9 @@ module _ (columns : List Column) (all : length columns ≡ COLUMNS) (rows : (num
   stands q is id here =
       let c : Column = column_at columns (column_number q) in
       let row : use_of id (slot_at columns q) ≤ sum_by (use_of id) c =
-          get_or-le-sum_by (use_of id) c (q.row - 1) slot.Empty (row_in q is) in
+      get_or-le-sum_by (use_of id) c (q.row - 1) slot.Empty (row_in q is) in
       let column : sum_by (use_of id) c ≤ uses_in id columns =
-          get_or-le-sum_by (λ c. sum_by (use_of id) c) columns (column_number q) [] (within q is columns all) in
+      get_or-le-sum_by (λ c. sum_by (use_of id) c) columns (column_number q) [] (within q is columns all) in
       let counted : use_of id (slot_at columns q) ≡ 1 = ap (use_of id) here ∙ one id in
       omega (arith, row, column, counted)
 

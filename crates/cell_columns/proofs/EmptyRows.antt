@@ -1,14 +1,12 @@
 -- Rows of a column that are emptied.
-use Rattle.std.proofs.Common.{◌≡◌, ◌≢◌, ℕ, ◌+◌, ◌-◌, ◌≤◌, ◌<◌, ◌&&◌, nat_le, nat_lt, not, Bool, true, false, cond, List, [], length, take, drop, replicate, Option, Some, None, unwrap_or, refl, sym, ap, subst, ◌∙◌, T, ◌⊎◌, inl, inr, arith}
-use Rattle.std.specs.Prelude.{slice_index_or, sum_by}
+use Rattle.std.proofs.Common.{◌≡◌, ◌≢◌, ℕ, ◌+◌, ◌-◌, ◌≤◌, ◌<◌, ◌&&◌, nat_le, nat_lt, not, Bool, true, false, cond, List, length, take, drop, replicate, None, unwrap_or, refl, sym, ap, subst, ◌∙◌, ◌⊎◌, inl, inr, arith}
+use Rattle.std.specs.Prelude.{slice_index_or}
 use Rattle.std.specs.List.{filter}
 use Rattle.std.specs.FinMap.Entries.{find, find-where_key}
 use Rattle.std.proofs.lemmas.Bool.Decides.{nat_tests}
 use Rattle.std.proofs.lemmas.List.{length-replicate}
-use Rattle.std.proofs.lemmas.List.Folds.{sum_by-replicate}
 use Rattle.calc_addr.specs.declared.cell.TheConstants.{LAST_ROW}
 use Rattle.calc_addr.specs.Places.{IsPlace, Place, place_cmp}
-use Rattle.calc_model.specs.declared.content.Content.{Content}
 use Rattle.calc_model.specs.declared.content.Content.TheVariants.{Empty}
 use Rattle.calc_model.specs.declared.limits.TheConstants.{MOST_CELLS}
 use Rattle.calc_model.specs.Books.{IsBook, content_at, is_cell_entry}
@@ -23,13 +21,10 @@ use Rattle.cell_columns.specs.Cells.{Column, cells_of, cells_only, column_at, co
 use Rattle.cell_columns.specs.Emptied.{lies_in, without_rows}
 use Rattle.cell_columns.specs.Sheets.{AreSheets}
 use Rattle.cell_columns.specs.Taken.{AreReturned}
-use Rattle.cell_columns.specs.Uses.{cell_of, summed}
-use Rattle.cell_columns.proofs.Counted.{counted}
 use Rattle.cell_columns.proofs.Edited.{IsFit}
 use Rattle.cell_columns.proofs.Nothing.{each_of}
-use Rattle.cell_columns.proofs.PutRows.{summed_rows}
 use Rattle.cell_columns.proofs.SetRows.{each_content, sheets_put}
-use Rattle.cell_columns.proofs.Told.{entries_are, holds, is_book, same_cells}
+use Rattle.cell_columns.proofs.Told.{holds, is_book, same_cells}
 use Rattle.cell_columns.proofs.Uses.{taken_empty}
 
 -- cells that don't pass hold nothing
@@ -88,11 +83,11 @@ module _ (old new : Codes) (before : List Column) (was : AreSheets old before) (
       each_content old old new before was number among (first - 1) blank fits (taken_empty old n) returned_rows fit_rows
       (λ q c. content_at (cells_only left) q ≡ c)
       (λ q is column above below.
-        let inside : lies_in number (number + 1) first last q ≡ true = grind (arith, nat_tests, column, above, below, from, order, is.row_from, length_replicate n) in
-        left_at q ∙ ap (λ b. cond (not b) (content_at (cells_only (cells_of old before)) q) Empty) inside ∙ sym (ap (content_of old q) (empty_at n (q.row - 1 - (first - 1)))))
+      let inside : lies_in number (number + 1) first last q ≡ true = grind (arith, nat_tests, column, above, below, from, order, is.row_from, length_replicate n) in
+      left_at q ∙ ap (λ b. cond (not b) (content_at (cells_only (cells_of old before)) q) Empty) inside ∙ sym (ap (content_of old q) (empty_at n (q.row - 1 - (first - 1)))))
       (λ q is outside.
-        let out : lies_in number (number + 1) first last q ≡ false = elsewhere q is outside in
-        left_at q ∙ ap (λ b. cond (not b) (content_at (cells_only (cells_of old before)) q) Empty) out ∙ holds old before q is)
+      let out : lies_in number (number + 1) first last q ≡ false = elsewhere q is outside in
+      left_at q ∙ ap (λ b. cond (not b) (content_at (cells_only (cells_of old before)) q) Empty) out ∙ holds old before q is)
       q is
     where
       elsewhere : (q : Place) → IsPlace q → (column_number q ≢ number) ⊎ ((q.row - 1 < first - 1) ⊎ (first - 1 + length blank ≤ q.row - 1)) → lies_in number (number + 1) first last q ≡ false

@@ -1,15 +1,13 @@
 -- A cell is found in its column.
-use Rattle.std.proofs.Common.{◌≡◌, ℕ, suc, zero, ◌+◌, ◌-◌, ◌≤◌, ◌<◌, Bool, true, false, cond, List, [], ◌∷◌, ◌++◌, Option, Some, None, unwrap_or, refl, sym, ap, subst, ◌∙◌, arith}
+use Rattle.std.proofs.Common.{◌≡◌, ℕ, suc, zero, ◌+◌, ◌≤◌, true, false, cond, List, [], ◌∷◌, ◌++◌, Option, Some, None, refl, sym, ap, subst, ◌∙◌, arith}
 use Rattle.std.specs.Prelude.{slice_index_or}
 use Rattle.std.specs.Ordering.{eq_by_cmp, is_eq, is_lt}
 use Rattle.std.specs.declared.cmp.Ordering.{Ordering}
 use Rattle.std.specs.declared.cmp.Ordering.TheVariants.{Less, Equal, Greater}
 use Rattle.std.specs.FinMap.Entries.{below_all, find}
 use Rattle.std.proofs.lemmas.Bool.Decides.{nat_tests}
-use Rattle.calc_addr.specs.Places.{IsPlace, Place, place_cmp}
+use Rattle.calc_addr.specs.Places.{Place, place_cmp}
 use Rattle.calc_model.specs.declared.content.Content.{Content}
-use Rattle.calc_model.specs.declared.content.Content.TheVariants.{Empty}
-use Rattle.calc_model.specs.Books.{Book, content_at}
 use Rattle.calc_model.specs.CellEdits.{CellEntries}
 use Rattle.calc_model.proofs.Areas.{both_true}
 use Rattle.calc_model.proofs.Reached.{same_cell}
@@ -17,7 +15,7 @@ use Rattle.formula_code.specs.Codes.{Codes}
 use Rattle.block_column.specs.declared.slot.Slot.{Slot}
 use Rattle.block_column.specs.declared.slot.Slot.TheVariants as slot
 use Rattle.block_column.specs.Kinds.{is_filled}
-use Rattle.cell_columns.specs.Cells.{Column, cell_in, cells_below, cells_from, cells_of, column_number, content_of, slot_at}
+use Rattle.cell_columns.specs.Cells.{Column, cell_in, cells_below, cells_from, content_of}
 use Rattle.cell_columns.proofs.Orders.{below_column, below_columns, columns_rise, rows_rise}
 
 not_same : (o : Ordering) → is_lt o ≡ true → is_eq o ≡ false
@@ -65,7 +63,7 @@ module _ (codes : Codes) where
       let rest : CellEntries = cells_below codes number (row + 1) xs in
       let here : q ≡ cell_in number row = is ∙ ap (cell_in number) (omega arith) in
       let behind : find place_cmp q (rest ++ es) ≡ None =
-          in_neither q rest es (not_before q rest (subst (λ p. below_all place_cmp p rest ≡ true) (sym here) (below_column codes (cell_in number row) number (row + 1) (λ r h. rows_rise number row r (omega arith)) xs))) none in
+      in_neither q rest es (not_before q rest (subst (λ p. below_all place_cmp p rest ≡ true) (sym here) (below_column codes (cell_in number row) number (row + 1) (λ r h. rows_rise number row r (omega arith)) xs))) none in
       elim (is_filled x) as (λ b. find place_cmp q (cond b ((cell_in number row, content_of codes (cell_in number row) x) ∷ rest) rest ++ es) ≡ cond b (Some (content_of codes q x)) None) [
         | true ↦ ap (λ b. cond b (Some (content_of codes (cell_in number row) x)) (find place_cmp q (rest ++ es))) (subst (λ p. eq_by_cmp place_cmp q p ≡ true) here (same_cell q)) ∙ ap (λ p. Some (content_of codes p x)) (sym here)
         | false ↦ behind

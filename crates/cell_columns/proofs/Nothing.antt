@@ -1,9 +1,9 @@
 -- Columns that are empty.
-use Rattle.std.proofs.Common.{◌≡◌, ℕ, suc, zero, ◌+◌, ◌-◌, ◌*◌, ◌≤◌, ◌<◌, true, List, [], ◌∷◌, ◌++◌, length, map, replicate, Option, None, refl, sym, ap, subst, ◌∙◌, arith}
+use Rattle.std.proofs.Common.{◌≡◌, ℕ, suc, zero, ◌+◌, ◌-◌, ◌*◌, ◌≤◌, ◌<◌, true, List, [], ◌∷◌, ◌++◌, length, map, replicate, refl, sym, ap, subst, ◌∙◌, arith}
 use Rattle.std.specs.Prelude.{slice_index_or, sum_by}
 use Rattle.std.proofs.lemmas.List.Folds.{sum_by-replicate}
 use Rattle.calc_addr.specs.declared.cell.TheConstants.{LAST_ROW}
-use Rattle.calc_addr.specs.Places.{IsPlace, Place}
+use Rattle.calc_addr.specs.Places.{Place}
 use Rattle.calc_model.specs.declared.limits.TheConstants.{MOST_CELLS}
 use Rattle.calc_model.specs.CellEdits.{CellEntries}
 use Rattle.formula_code.specs.Codes.{Codes}
@@ -15,7 +15,7 @@ use Rattle.block_column.specs.Kinds.{is_filled}
 use Rattle.block_column.specs.SlotRows.{SlotRows}
 use Rattle.block_column.specs.Tables.{no_slots}
 use Rattle.cell_columns.specs.declared.columns.TheConstants.{COLUMNS}
-use Rattle.cell_columns.specs.Cells.{Column, cells_of, column_at, column_number, slot_at}
+use Rattle.cell_columns.specs.Cells.{Column, cells_of, column_number, slot_at}
 use Rattle.cell_columns.specs.Lent.{AreColumns, codes_of, slots_of}
 use Rattle.cell_columns.specs.Sheets.{AreSheets}
 use Rattle.cell_columns.specs.Uses.{cell_of, code_in, codes_in, formula_of, summed, use_of}

@@ -1,16 +1,16 @@
 -- Slots that are put into neighbouring rows of a column.
-use Rattle.std.proofs.Common.{◌≡◌, ◌≢◌, ℕ, suc, zero, ◌+◌, ◌-◌, ◌≤◌, ◌<◌, ◌==◌, ◌&&◌, nat_le, nat_lt, Bool, true, false, cond, List, [], ◌∷◌, ◌++◌, length, take, drop, map, ◌⊎◌, inl, inr, refl, sym, ap, subst, ◌∙◌, arith}
-use Rattle.std.specs.Prelude.{slice_index_or, slice_set, sum_by}
+use Rattle.std.proofs.Common.{◌≡◌, ◌≢◌, ℕ, ◌+◌, ◌-◌, ◌≤◌, ◌<◌, ◌==◌, true, false, List, [], ◌++◌, length, take, drop, ◌⊎◌, inl, inr, refl, sym, ap, subst, ◌∙◌, arith}
+use Rattle.std.specs.Prelude.{slice_index_or, sum_by}
 use Rattle.std.proofs.Common.{get_or-set_same, get_or-set_other, length-set}
-use Rattle.std.proofs.lemmas.Bool.Decides.{Decides-eqb, nat_tests}
+use Rattle.std.proofs.lemmas.Bool.Decides.{Decides-eqb}
 use Rattle.std.proofs.lemmas.List.{drop-drop, get_or-append_right, get_or-drop, get_or-take, get_or_append_left, length-append, length-drop, length-take}
 use Rattle.std.proofs.lemmas.List.Sums.{sum_by-append, sum_by-set, sum_by-take-drop}
 use Rattle.calc_addr.specs.declared.cell.TheConstants.{LAST_ROW}
-use Rattle.calc_addr.specs.Places.{IsPlace, Place}
+use Rattle.calc_addr.specs.Places.{Place}
 use Rattle.block_column.specs.declared.slot.Slot.{Slot}
 use Rattle.block_column.specs.declared.slot.Slot.TheVariants as slot
 use Rattle.cell_columns.specs.declared.columns.TheConstants.{COLUMNS}
-use Rattle.cell_columns.specs.Cells.{Column, column_at, column_number, is_in_rows, rows_put, slot_at, with_rows}
+use Rattle.cell_columns.specs.Cells.{Column, column_at, column_number, rows_put, slot_at, with_rows}
 use Rattle.cell_columns.specs.Uses.{summed}
 use Rattle.cell_columns.proofs.PutSlot.{unequal}
 
@@ -45,12 +45,14 @@ module _ {X : Type 0} (a : ℕ) (xs rows : List X) (fits : a + length xs ≤ len
   sum_rows f =
       let after : List X = drop a rows in
       let behind : sum_by f (drop (length xs) after) ≡ sum_by f (drop (a + length xs) rows) = ap (sum_by f) (drop-drop (length xs) a rows) in
-      omega (arith,
-      sum_by-append f (take a rows) (xs ++ drop (a + length xs) rows),
-      sum_by-append f xs (drop (a + length xs) rows),
-      sum_by-take-drop f rows a,
-      sum_by-take-drop f after (length xs),
-      behind)
+      omega (
+        arith,
+        sum_by-append f (take a rows) (xs ++ drop (a + length xs) rows),
+        sum_by-append f xs (drop (a + length xs) rows),
+        sum_by-take-drop f rows a,
+        sum_by-take-drop f after (length xs),
+        behind,
+      )
 
 module _ (before : List Column) (all : length before ≡ COLUMNS) (rows : (number : ℕ) → number < COLUMNS → length (column_at before number) ≡ LAST_ROW) (number : ℕ) (among : number < COLUMNS) (a : ℕ) (xs : Column) (fits : a + length xs ≤ LAST_ROW) where
   old : Column

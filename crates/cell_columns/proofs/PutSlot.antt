@@ -1,11 +1,11 @@
 -- A slot that is put into a cell of columns.
-use Rattle.std.proofs.Common.{◌≡◌, ◌≢◌, ℕ, suc, zero, ◌+◌, ◌-◌, ◌≤◌, ◌<◌, Bool, true, false, cond, ◌==◌, List, [], ◌∷◌, length, map, Option, Some, None, refl, sym, ap, subst, ◌∙◌, arith}
+use Rattle.std.proofs.Common.{◌≡◌, ◌≢◌, ℕ, suc, zero, ◌+◌, ◌-◌, ◌<◌, true, false, ◌==◌, List, [], ◌∷◌, length, refl, sym, ap, subst, ◌∙◌, arith}
 use Rattle.std.specs.Prelude.{slice_index_or, slice_set, sum_by}
 use Rattle.std.proofs.Common.{get_or-set_same, get_or-set_other, length-set}
 use Rattle.std.proofs.lemmas.Bool.Decides.{Decides-eqb, nat_tests}
 use Rattle.std.proofs.lemmas.List.Sums.{sum_by-set}
-use Rattle.calc_addr.specs.declared.cell.TheConstants.{LAST_COL, LAST_ROW, LAST_SHEET}
-use Rattle.calc_addr.specs.Places.{IsPlace, Place, place_cmp}
+use Rattle.calc_addr.specs.declared.cell.TheConstants.{LAST_ROW}
+use Rattle.calc_addr.specs.Places.{IsPlace, Place}
 use Rattle.calc_model.proofs.Places.{exact_places}
 use Rattle.block_column.specs.declared.slot.Slot.{Slot}
 use Rattle.block_column.specs.declared.slot.Slot.TheVariants as slot
@@ -88,7 +88,7 @@ module _ (before : List Column) (all : length before ≡ COLUMNS) (rows : (numbe
       let c : Column = column_at before (column_number cell) in
       let put : Column = slice_set c (cell.row - 1) x in
       let in_rows : sum_by f put + f (slot_at before cell) ≡ sum_by f c + f x =
-          sum_by-set f c (cell.row - 1) x slot.Empty inside in
+      sum_by-set f c (cell.row - 1) x slot.Empty inside in
       let in_columns : summed f (with_slot before cell x) + sum_by f c ≡ summed f before + sum_by f put =
-          sum_by-set (λ c. sum_by f c) before (column_number cell) put [] among in
+      sum_by-set (λ c. sum_by f c) before (column_number cell) put [] among in
       omega (arith, in_rows, in_columns)

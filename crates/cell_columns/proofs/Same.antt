@@ -1,16 +1,16 @@
 -- Codes that are the same, under columns that are seen as the same.
-use Rattle.std.proofs.Common.{◌≡◌, ℕ, ◌+◌, ◌≤◌, ◌<◌, Bool, true, false, cond, List, [], ◌∷◌, ◌++◌, length, Option, map, refl, sym, ap, subst, ◌∙◌, arith}
+use Rattle.std.proofs.Common.{◌≡◌, ℕ, ◌+◌, ◌≤◌, true, cond, List, [], ◌∷◌, ◌++◌, length, map, refl, sym, ap, subst, ◌∙◌, arith}
 use Rattle.std.specs.Prelude.{IsSome, sum_by}
 use Rattle.std.specs.Option.{option_map_or}
 use Rattle.std.proofs.lemmas.List.Sums.{sum_by-le-sum_by}
-use Rattle.calc_addr.specs.Places.{IsPlace, Place}
+use Rattle.calc_addr.specs.Places.{Place}
 use Rattle.calc_model.specs.declared.content.Content.TheVariants.{Formula}
 use Rattle.calc_model.specs.declared.tree.Tree.TheVariants.{Bad}
 use Rattle.calc_model.specs.declared.fault.Fault.TheVariants.{Syntax}
 use Rattle.calc_model.specs.Books.{is_content}
 use Rattle.calc_model.specs.declared.limits.TheConstants.{MOST_CELLS}
 use Rattle.calc_model.specs.CellEdits.{CellEntries}
-use Rattle.formula_code.specs.Codes.{Code, Codes, IsCodeAt, IsSame, form_at, has_valid_references, slot_uses, total_uses}
+use Rattle.formula_code.specs.Codes.{Code, Codes, IsSame, form_at, has_valid_references, slot_uses}
 use Rattle.formula_code.specs.Relative.{absolute}
 use Rattle.formula_code.proofs.Totals.{uses_same}
 use Rattle.block_column.specs.declared.slot.Slot.{Slot}

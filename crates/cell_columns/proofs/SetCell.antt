@@ -1,6 +1,6 @@
 -- A cell of columns that is set.
-use Rattle.std.proofs.Common.{◌≡◌, ◌≢◌, ℕ, ◌+◌, ◌-◌, ◌≤◌, ◌<◌, Bool, true, false, cond, not, ◌||◌, List, [], ◌∷◌, length, refl, sym, ap, subst, ◌∙◌, ◌⊎◌, inl, inr, arith}
-use Rattle.std.specs.Prelude.{sum_by, Ok, Err}
+use Rattle.std.proofs.Common.{◌≡◌, ◌≢◌, ℕ, ◌≤◌, ◌<◌, true, false, cond, not, ◌||◌, List, [], ◌∷◌, length, refl, sym, ap, subst, ◌∙◌, ◌⊎◌, inl, inr, arith}
+use Rattle.std.specs.Prelude.{Ok, Err}
 use Rattle.std.specs.Ordering.{eq_by_cmp}
 use Rattle.std.proofs.lemmas.Bool.{le-leb}
 use Rattle.calc_addr.specs.declared.cell.TheConstants.{LAST_ROW}
@@ -16,7 +16,7 @@ use Rattle.calc_model.proofs.BooksKept.{keeps_books}
 use Rattle.calc_model.proofs.EntriesKept.{both_so}
 use Rattle.calc_model.proofs.Places.{same_places}
 use Rattle.calc_model.proofs.Reached.{or_second, same_cell}
-use Rattle.formula_code.specs.Codes.{Codes, IsCodeAt, IsLive, form_at, has_valid_references, total_uses, uses_at}
+use Rattle.formula_code.specs.Codes.{Codes, IsLive, has_valid_references, total_uses, uses_at}
 use Rattle.formula_code.specs.Relative.{absolute}
 use Rattle.block_column.specs.declared.slot.Slot.{Slot}
 use Rattle.block_column.specs.declared.slot.Slot.TheVariants as slot
@@ -25,7 +25,7 @@ use Rattle.cell_columns.specs.declared.columns.TheConstants.{COLUMNS}
 use Rattle.cell_columns.specs.Cells.{Column, cells_of, cells_only, column_at, content_of, slot_at, with_slot}
 use Rattle.cell_columns.specs.Sheets.{AreSheets}
 use Rattle.cell_columns.specs.Taken.{AreReturned, IsSlotOf, KeepsForms}
-use Rattle.cell_columns.specs.Uses.{cell_of, formula_of, formulas_in, summed, use_of, uses_in}
+use Rattle.cell_columns.specs.Uses.{formula_of, formulas_in, use_of, uses_in}
 use Rattle.cell_columns.proofs.Orders.{in_order}
 use Rattle.cell_columns.proofs.Edited.{IsFit, live, same_content, stands, still_sheets}
 use Rattle.cell_columns.proofs.PutSlot.{at_cell, elsewhere, put_all, put_rows, summed_put}
@@ -126,7 +126,7 @@ module _ (old mid new : Codes) (before : List Column) (was : AreSheets old befor
           valid_of : (s : Slot) → x ≡ s → is_filled s ≡ true → (not (is_held (content_of mid cell s)) || is_content (content_of mid cell s)) ≡ true
           valid_of s same filled =
               let good : is_content (content_of mid cell s) ≡ true =
-                  subst (λ c. is_content c ≡ true) (sym (ap (content_of mid cell) (sym same) ∙ put.holds)) (put.fit (subst (λ t. is_filled t ≡ true) (sym same) filled)) in
+              subst (λ c. is_content c ≡ true) (sym (ap (content_of mid cell) (sym same) ∙ put.holds)) (put.fit (subst (λ t. is_filled t ≡ true) (sym same) filled)) in
               or_second (not (is_held (content_of mid cell s))) (is_content (content_of mid cell s)) good
 
   pub cells_set : length (cells_of old before) ≤ MOST_CELLS → length (with_content (cells_of old before) cell content) ≤ MOST_CELLS → cells_of new (with_slot before cell x) ≡ with_content (cells_of old before) cell content

@@ -1,19 +1,19 @@
 -- Neighbouring rows of a column that are set.
-use Rattle.std.proofs.Common.{◌≡◌, ◌≢◌, ℕ, ◌+◌, ◌-◌, ◌≤◌, ◌<◌, ◌==◌, ◌&&◌, nat_le, nat_lt, Bool, true, false, cond, List, [], ◌∷◌, length, take, drop, refl, sym, ap, subst, ◌∙◌, ◌⊎◌, inl, inr, arith}
-use Rattle.std.specs.Prelude.{slice_index_or, sum_by}
+use Rattle.std.proofs.Common.{◌≡◌, ◌≢◌, ℕ, ◌+◌, ◌-◌, ◌≤◌, ◌<◌, ◌==◌, nat_le, nat_lt, true, false, List, length, take, drop, refl, sym, ap, subst, ◌∙◌, ◌⊎◌, inl, inr, arith}
+use Rattle.std.specs.Prelude.{slice_index_or}
 use Rattle.std.proofs.lemmas.Bool.Decides.{Decides-eqb, nat_tests}
 use Rattle.calc_addr.specs.declared.cell.TheConstants.{LAST_ROW}
 use Rattle.calc_addr.specs.Places.{IsPlace, Place}
 use Rattle.calc_model.specs.declared.content.Content.{Content}
 use Rattle.calc_model.specs.declared.content.Content.TheVariants.{Formula}
 use Rattle.calc_model.specs.Books.{is_content}
-use Rattle.formula_code.specs.Codes.{Codes, IsCodeAt, IsLive, form_at, has_valid_references, total_uses, uses_at}
+use Rattle.formula_code.specs.Codes.{Codes, IsCodeAt, IsLive, has_valid_references, total_uses, uses_at}
 use Rattle.formula_code.specs.Relative.{absolute}
 use Rattle.block_column.specs.declared.slot.Slot.{Slot}
 use Rattle.block_column.specs.declared.slot.Slot.TheVariants as slot
 use Rattle.block_column.specs.Kinds.{is_filled}
 use Rattle.cell_columns.specs.declared.columns.TheConstants.{COLUMNS}
-use Rattle.cell_columns.specs.Cells.{Column, column_at, column_number, content_of, is_in_rows, slot_at, with_rows}
+use Rattle.cell_columns.specs.Cells.{Column, column_at, column_number, content_of, slot_at, with_rows}
 use Rattle.cell_columns.specs.Sheets.{AreSheets}
 use Rattle.cell_columns.specs.Taken.{AreReturned, AreTaken, KeepsForms}
 use Rattle.cell_columns.specs.Uses.{formula_of, formulas_in, use_of, uses_in}
@@ -54,10 +54,10 @@ where_is number a n q =
                 elim (nat_lt (q.row - 1) (a + n)) as (λ b. nat_lt (q.row - 1) (a + n) ≡ b → Lies number a n q ⊎ ((column_number q ≢ number) ⊎ ((q.row - 1 < a) ⊎ (a + n ≤ q.row - 1)))) [
                   | false ↦ λ below. inr (inr (inr (grind (arith, nat_tests, below))))
                   | true ↦ λ to. inl (record {
-                      column = (Decides-eqb (column_number q) number).0 same;
-                      from = grind (arith, nat_tests, from);
-                      to = grind (arith, nat_tests, to);
-                    })
+                    column = (Decides-eqb (column_number q) number).0 same;
+                    from = grind (arith, nat_tests, from);
+                    to = grind (arith, nat_tests, to);
+                  })
                 ] refl
           ] refl
     ] refl

@@ -1,14 +1,13 @@
 -- Columns, codes and groups in which a cell is set.
-use Rattle.std.proofs.Common.{◌≡◌, ℕ, suc, zero, ◌+◌, ◌-◌, ◌≤◌, ◌<◌, Bool, true, false, cond, List, [], ◌∷◌, length, Option, Some, None, map, unwrap_or, refl, sym, ap, subst, ◌∙◌, arith}
+use Rattle.std.proofs.Common.{◌≡◌, ℕ, suc, zero, ◌+◌, ◌-◌, ◌≤◌, ◌<◌, true, false, cond, List, [], ◌∷◌, length, Option, Some, map, unwrap_or, refl, sym, ap, subst, ◌∙◌, arith}
 use Rattle.std.specs.Prelude.{count_by, slice_get, slice_index_or, slice_set, sum_by}
 use Rattle.std.proofs.lemmas.List.Recursion.{is_count_by}
-use Rattle.std.proofs.lemmas.List.Sums.{count_by-le-length, get_or-le-sum_by, sum_by-cons}
+use Rattle.std.proofs.lemmas.List.Sums.{get_or-le-sum_by, sum_by-cons}
 use Rattle.calc_addr.specs.declared.cell.TheConstants.{LAST_ROW}
 use Rattle.calc_addr.specs.Places.{IsPlace, Place}
 use Rattle.calc_model.specs.declared.content.Content.{Content}
 use Rattle.calc_model.specs.declared.limits.TheConstants.{MOST_CELLS}
 use Rattle.calc_model.specs.Books.{with_content}
-use Rattle.calc_model.specs.CellEdits.{CellEntries}
 use Rattle.formula_code.specs.Codes.{Codes}
 use Rattle.block_column.specs.declared.slot.Slot.{Slot}
 use Rattle.block_column.specs.declared.slot.Slot.TheVariants as slot
@@ -72,10 +71,10 @@ row_there columns groups cell is all rows grouped d =
     let n : ℕ = column_number cell in
     let many : length (codes_of groups) ≡ COLUMNS = ap length grouped ∙ length_map codes_in columns ∙ all in
     let seen : (slice_index_or groups n d).entries ≡ codes_in (column_at columns n) =
-        map_at (λ (g : GroupRows). g.entries) groups n d
-        ∙ index_any (codes_of groups) n d.entries [] (subst (λ k. n < k) (sym many) (number_in cell is))
-        ∙ ap (λ gs. slice_index_or gs n []) grouped
-        ∙ codes_at columns n in
+    map_at (λ (g : GroupRows). g.entries) groups n d
+    ∙ index_any (codes_of groups) n d.entries [] (subst (λ k. n < k) (sym many) (number_in cell is))
+    ∙ ap (λ gs. slice_index_or gs n []) grouped
+    ∙ codes_at columns n in
     let long : length (slice_index_or groups n d).entries ≡ LAST_ROW = ap length seen ∙ length_map code_in (column_at columns n) ∙ rows n (number_in cell is) in
     omega (arith, long, is.row_from, is.row_to)
 
@@ -99,16 +98,23 @@ module _ (old mid new : Codes) (before after : List SlotRows) (groups groups_aft
 
   column_changed : used_in after + cell_of (slot_at (slots_of before) cell) ≡ used_in before + cell_of x
   column_changed =
-      omega (arith,
-      count_is_sum (column_at (slots_of after) (column_number cell)),
-      count_is_sum (column_at (slots_of before) (column_number cell)),
-      ap (λ cs. sum_by cell_of (column_at cs (column_number cell))) slots,
-      rows_put (slots_of before) was.sheets.all_columns was.sheets.all_rows cell is x cell_of)
+      omega (
+        arith,
+        count_is_sum (column_at (slots_of after) (column_number cell)),
+        count_is_sum (column_at (slots_of before) (column_number cell)),
+        ap (λ cs. sum_by cell_of (column_at cs (column_number cell))) slots,
+        rows_put (slots_of before) was.sheets.all_columns was.sheets.all_rows cell is x cell_of,
+      )
 
   pub column_few : used_in before ≤ len
   column_few =
-      omega (arith, was.counted, counted old (slots_of before), count_is_sum (column_at (slots_of before) (column_number cell)),
-      get_or-le-sum_by (λ c. sum_by cell_of c) (slots_of before) (column_number cell) [] (subst (λ n. column_number cell < n) (sym was.sheets.all_columns) (number_in cell is)))
+      omega (
+        arith,
+        was.counted,
+        counted old (slots_of before),
+        count_is_sum (column_at (slots_of before) (column_number cell)),
+        get_or-le-sum_by (λ c. sum_by cell_of c) (slots_of before) (column_number cell) [] (subst (λ n. column_number cell < n) (sym was.sheets.all_columns) (number_in cell is)),
+      )
 
   pub sum_fits : len + used_in after ≤ MOST_CELLS + MOST_CELLS + 1
   sum_fits = omega (arith, was.few, was.counted, column_few, column_changed, at_most_one x)

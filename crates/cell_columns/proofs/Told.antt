@@ -1,16 +1,16 @@
 -- The cells of columns are those of a book, which the slots of its cells decide.
-use Rattle.std.proofs.Common.{◌≡◌, ℕ, suc, zero, ◌+◌, ◌-◌, ◌≤◌, ◌<◌, Bool, true, false, ◌&&◌, cond, List, [], ◌∷◌, ◌++◌, length, Option, Some, None, unwrap_or, refl, sym, ap, subst, ◌∙◌, T, arith}
+use Rattle.std.proofs.Common.{◌≡◌, ℕ, suc, ◌+◌, ◌-◌, ◌≤◌, ◌<◌, Bool, true, false, cond, List, [], ◌∷◌, ◌++◌, length, Option, Some, None, unwrap_or, refl, sym, ap, subst, ◌∙◌, T, arith}
 use Rattle.std.specs.Prelude.{slice_index_or}
 use Rattle.std.specs.List.{list_all}
 use Rattle.std.specs.Ordering.{eq_by_cmp}
-use Rattle.std.specs.FinMap.Entries.{find, is_sorted, same_entries}
+use Rattle.std.specs.FinMap.Entries.{find, same_entries}
 use Rattle.std.proofs.lemmas.Bool.Decides.{nat_tests}
-use Rattle.calc_addr.specs.declared.cell.TheConstants.{LAST_COL, LAST_ROW, LAST_SHEET}
+use Rattle.calc_addr.specs.declared.cell.TheConstants.{LAST_ROW}
 use Rattle.calc_addr.specs.Places.{IsPlace, Place, place_cmp}
 use Rattle.calc_model.specs.declared.content.Content.{Content}
 use Rattle.calc_model.specs.declared.content.Content.TheVariants as content
 use Rattle.calc_model.specs.declared.limits.TheConstants.{MOST_CELLS}
-use Rattle.calc_model.specs.Books.{Book, IsBook, content_at, is_cell_entry, is_content, is_place}
+use Rattle.calc_model.specs.Books.{IsBook, content_at, is_cell_entry, is_content, is_place}
 use Rattle.calc_model.specs.CellEdits.{CellEntries}
 use Rattle.calc_model.proofs.Areas.{both_true}
 use Rattle.calc_model.proofs.EntriesKept.{both_so}
@@ -61,9 +61,9 @@ module _ (codes : Codes) where
   entries_below number row (x ∷ xs) each =
       let rest : CellEntries = cells_below codes number (row + 1) xs in
       let first : is_filled x ≡ true → is_cell_entry (cell_in number row, content_of codes (cell_in number row) x) ≡ true =
-          λ filled. subst (λ r. is_cell_entry (cell_in number r, content_of codes (cell_in number r) x) ≡ true) (same_number row) (each 0 (omega arith) filled) in
+      λ filled. subst (λ r. is_cell_entry (cell_in number r, content_of codes (cell_in number r) x) ≡ true) (same_number row) (each 0 (omega arith) filled) in
       let behind : list_all is_cell_entry rest ≡ true =
-          entries_below number (row + 1) xs (λ i h filled. subst (λ r. is_cell_entry (cell_in number r, content_of codes (cell_in number r) (slice_index_or xs i slot.Empty)) ≡ true) (next_number row i) (each (suc i) (omega (arith, h)) filled)) in
+      entries_below number (row + 1) xs (λ i h filled. subst (λ r. is_cell_entry (cell_in number r, content_of codes (cell_in number r) (slice_index_or xs i slot.Empty)) ≡ true) (next_number row i) (each (suc i) (omega (arith, h)) filled)) in
       elim (is_filled x) as (λ b. is_filled x ≡ b → list_all is_cell_entry (cond b ((cell_in number row, content_of codes (cell_in number row) x) ∷ rest) rest) ≡ true) [
         | true ↦ λ filled. both_so _ _ (first filled) behind
         | false ↦ λ _. behind

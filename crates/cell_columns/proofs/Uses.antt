@@ -1,5 +1,5 @@
 -- The uses of codes as slots come and go.
-use Rattle.std.proofs.Common.{◌≡◌, ◌≢◌, ℕ, suc, zero, ◌+◌, ◌-◌, ◌≤◌, ◌<◌, ◌==◌, Bool, true, false, cond, List, [], ◌∷◌, Option, Some, None, unwrap_or, refl, sym, ap, subst, ◌∙◌, arith}
+use Rattle.std.proofs.Common.{◌≡◌, ℕ, ◌+◌, ◌-◌, ◌≤◌, ◌==◌, true, false, cond, [], ◌∷◌, Option, Some, None, unwrap_or, refl, sym, ap, subst, ◌∙◌, arith}
 use Rattle.std.specs.Prelude.{IsSome, replicate, sum_by}
 use Rattle.std.proofs.lemmas.List.Folds.{sum_by-replicate}
 use Rattle.std.proofs.lemmas.Bool.Decides.{Decides-eqb, nat_tests}
@@ -12,7 +12,7 @@ use Rattle.calc_model.specs.declared.fault.Fault.TheVariants.{Syntax}
 use Rattle.calc_model.specs.declared.value.Value.{Value}
 use Rattle.calc_model.specs.Books.{is_content}
 use Rattle.calc_model.specs.Formed.{is_formed}
-use Rattle.formula_code.specs.Codes.{Changes, Code, Codes, IsCodeAt, IsInterned, IsLive, IsSame, code_at, form_at, slot_uses, total_uses, used_again, uses_at, with_uses}
+use Rattle.formula_code.specs.Codes.{Changes, Code, Codes, IsCodeAt, IsInterned, IsLive, code_at, form_at, slot_uses, used_again, uses_at, with_uses}
 use Rattle.formula_code.specs.Relative.{relative}
 use Rattle.formula_code.proofs.Totals.{uses_changed}
 use Rattle.block_column.specs.declared.slot.Slot.{Slot}

@@ -71,7 +71,7 @@ fn clear_column(
     ensures are { AreColumns codes.new columns.new.items groups.new.items result }
     ensures cells { cells_of codes.new (slots_of columns.new.items)
         ≡ without_rows number (number + 1) first last
-            (cells_of codes.old (slots_of columns.old.items)) }
+        (cells_of codes.old (slots_of columns.old.items)) }
     ensures other_columns { (n : ℕ) → n ≢ number → (d : SlotRows) →
         slice_index_or columns.new.items n d ≡ slice_index_or columns.old.items n d }
     ensures other_groups { (n : ℕ) → n ≢ number → (d : GroupRows) →

@@ -40,9 +40,7 @@ pub(crate) fn content_at(
         SlotRef::Words(text) => words_content(alloc, text),
         SlotRef::Bad(fault) => Ok(fault_content(fault)),
         SlotRef::Raw(text) => Ok(Content::Raw(text.copy(alloc)?)),
-        SlotRef::Formula(id) => Ok(Content::Formula(Formula::of(
-            codes.tree_at(alloc, id, cell)?,
-        ))),
+        SlotRef::Formula(id) => Ok(Content::Formula(Formula::of(codes.tree_at(alloc, id, cell)?))),
     }
 }
 

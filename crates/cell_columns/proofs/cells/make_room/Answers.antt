@@ -1,4 +1,4 @@
-use Rattle.std.proofs.Common.{◌≡◌, ℕ, ◌+◌, ◌-◌, ◌≤◌, ◌<◌, [], ◌∷◌, List, Option, Some, None, length, refl, sym, ap, subst, ◌∙◌, arith}
+use Rattle.std.proofs.Common.{ap, ◌∙◌}
 use Rattle.block_column.specs.SlotRows.{SlotRows}
 use Rattle.formula_groups.specs.GroupRows.{GroupRows}
 use Rattle.cell_columns.proofs.Maps.{map_same}

@@ -1,8 +1,7 @@
-use Rattle.std.proofs.Common.{◌≡◌, ℕ, ◌+◌, ◌-◌, ◌≤◌, ◌<◌, [], ◌∷◌, List, Option, Some, None, length, map, refl, sym, ap, subst, ◌∙◌, arith}
+use Rattle.std.proofs.Common.{◌-◌, ◌<◌, length, sym, ap, subst, ◌∙◌}
 use Rattle.std.specs.Prelude.{slice_index_or, slice_set}
 use Rattle.calc_addr.specs.Places.{Place}
 use Rattle.formula_groups.specs.GroupRows.{GroupRows}
-use Rattle.cell_columns.specs.Cells.{column_number}
 use Rattle.cell_columns.specs.Uses.{code_in}
 use Rattle.cell_columns.proofs.Setting.{seen_code, seen_put}
 use Rattle.cell_columns.proofs.cells.put.Goals as goal

@@ -1,5 +1,5 @@
-use Rattle.std.proofs.Common.{◌≡◌, ℕ, ◌+◌, ◌-◌, ◌≤◌, ◌<◌, List, [], length, length-set, take, drop, refl, sym, ap, subst, ◌∙◌, arith}
-use Rattle.std.specs.Prelude.{count_by, slice_index_or, slice_set}
+use Rattle.std.proofs.Common.{◌≡◌, ◌+◌, ◌-◌, ◌<◌, List, length-set, take, drop, sym, ap, subst, ◌∙◌, arith}
+use Rattle.std.specs.Prelude.{count_by, slice_set}
 use Rattle.block_column.specs.Kinds.{is_filled}
 use Rattle.block_column.specs.SlotRows.{SlotRows}
 use Rattle.cell_columns.specs.Cells.{column_at}
@@ -16,11 +16,11 @@ overflow_add-result c =
     let columns : List SlotRows = c.args.columns.now.items in
     let after : List SlotRows = slice_set columns c.args.number c.empty_rows.new.column in
     let freed : AreReturned c.args.codes.now c.release.new.codes (take (c.args.last + 1 - c.args.first) (drop (c.args.first - 1) (column_at (slots_of columns) c.args.number))) =
-        returned_by c.args.codes.now c.args.columns.now.items c.args.groups.now.items c.args.len c.requires.are c.args.number c.requires.among c.args.first c.args.last c.requires.rows c.index.result.now c.index.ensures c.index-2.result.now c.index-2.ensures c.release.new.codes c.groups.result.now c.groups.ensures c.release.ensures in
+    returned_by c.args.codes.now c.args.columns.now.items c.args.groups.now.items c.args.len c.requires.are c.args.number c.requires.among c.args.first c.args.last c.requires.rows c.index.result.now c.index.ensures c.index-2.result.now c.index-2.ensures c.release.new.codes c.groups.result.now c.groups.ensures c.release.ensures in
     let used_before : c.used-used.result ≡ count_by is_filled (column_at (slots_of columns) c.args.number) =
-        c.used-used.ensures ∙ ap (count_by is_filled) (slots_are c.args.codes.now c.args.columns.now.items c.args.groups.now.items c.args.len c.requires.are c.args.number c.requires.among c.args.first c.args.last c.requires.rows c.index.result.now c.index.ensures c.index-2.result.now c.index-2.ensures) in
+    c.used-used.ensures ∙ ap (count_by is_filled) (slots_are c.args.codes.now c.args.columns.now.items c.args.groups.now.items c.args.len c.requires.are c.args.number c.requires.among c.args.first c.args.last c.requires.rows c.index.result.now c.index.ensures c.index-2.result.now c.index-2.ensures) in
     let used_after : c.used.result ≡ count_by is_filled (column_at (slots_of after) c.args.number) =
-        c.used.ensures ∙ ap (count_by is_filled) (column_is after c.args.number c.index-3.result.now (subst (λ n. c.args.number < n) (sym (length-set columns c.args.number c.empty_rows.new.column)) (many c.args.codes.now c.args.columns.now.items c.args.groups.now.items c.args.len c.requires.are c.args.number c.requires.among c.args.first c.args.last c.requires.rows c.index.result.now c.index.ensures c.index-2.result.now c.index-2.ensures)) c.index-3.ensures) in
+    c.used.ensures ∙ ap (count_by is_filled) (column_is after c.args.number c.index-3.result.now (subst (λ n. c.args.number < n) (sym (length-set columns c.args.number c.empty_rows.new.column)) (many c.args.codes.now c.args.columns.now.items c.args.groups.now.items c.args.len c.requires.are c.args.number c.requires.among c.args.first c.args.last c.requires.rows c.index.result.now c.index.ensures c.index-2.result.now c.index-2.ensures)) c.index-3.ensures) in
     omega (arith, used_after, less c.args.codes.now c.args.columns.now.items c.args.groups.now.items c.args.len c.requires.are c.args.number c.requires.among c.args.first c.args.last c.requires.rows c.index_mut.result.now c.index_mut.ensures.value c.index_mut-2.result.now c.index_mut-2.ensures.value c.release.new.codes freed c.empty_rows.new.column c.empty_rows.ensures.slots c.empty_rows.new.groups c.empty_rows.ensures.codes, used_few c.args.codes.now c.args.columns.now.items c.args.groups.now.items c.args.len c.requires.are c.args.number c.requires.among c.args.first c.args.last c.requires.rows c.index_mut.result.now c.index_mut.ensures.value c.index_mut-2.result.now c.index_mut-2.ensures.value c.release.new.codes freed c.empty_rows.new.column c.empty_rows.ensures.slots c.empty_rows.new.groups c.empty_rows.ensures.codes, c.requires.are.counted, c.requires.are.few)
 
 pub overflow_sub-result : goal.overflow_sub-result
@@ -28,11 +28,11 @@ overflow_sub-result c =
     let columns : List SlotRows = c.args.columns.now.items in
     let after : List SlotRows = slice_set columns c.args.number c.empty_rows.new.column in
     let freed : AreReturned c.args.codes.now c.release.new.codes (take (c.args.last + 1 - c.args.first) (drop (c.args.first - 1) (column_at (slots_of columns) c.args.number))) =
-        returned_by c.args.codes.now c.args.columns.now.items c.args.groups.now.items c.args.len c.requires.are c.args.number c.requires.among c.args.first c.args.last c.requires.rows c.index.result.now c.index.ensures c.index-2.result.now c.index-2.ensures c.release.new.codes c.groups.result.now c.groups.ensures c.release.ensures in
+    returned_by c.args.codes.now c.args.columns.now.items c.args.groups.now.items c.args.len c.requires.are c.args.number c.requires.among c.args.first c.args.last c.requires.rows c.index.result.now c.index.ensures c.index-2.result.now c.index-2.ensures c.release.new.codes c.groups.result.now c.groups.ensures c.release.ensures in
     let used_before : c.used-used.result ≡ count_by is_filled (column_at (slots_of columns) c.args.number) =
-        c.used-used.ensures ∙ ap (count_by is_filled) (slots_are c.args.codes.now c.args.columns.now.items c.args.groups.now.items c.args.len c.requires.are c.args.number c.requires.among c.args.first c.args.last c.requires.rows c.index.result.now c.index.ensures c.index-2.result.now c.index-2.ensures) in
+    c.used-used.ensures ∙ ap (count_by is_filled) (slots_are c.args.codes.now c.args.columns.now.items c.args.groups.now.items c.args.len c.requires.are c.args.number c.requires.among c.args.first c.args.last c.requires.rows c.index.result.now c.index.ensures c.index-2.result.now c.index-2.ensures) in
     let used_after : c.used.result ≡ count_by is_filled (column_at (slots_of after) c.args.number) =
-        c.used.ensures ∙ ap (count_by is_filled) (column_is after c.args.number c.index-3.result.now (subst (λ n. c.args.number < n) (sym (length-set columns c.args.number c.empty_rows.new.column)) (many c.args.codes.now c.args.columns.now.items c.args.groups.now.items c.args.len c.requires.are c.args.number c.requires.among c.args.first c.args.last c.requires.rows c.index.result.now c.index.ensures c.index-2.result.now c.index-2.ensures)) c.index-3.ensures) in
+    c.used.ensures ∙ ap (count_by is_filled) (column_is after c.args.number c.index-3.result.now (subst (λ n. c.args.number < n) (sym (length-set columns c.args.number c.empty_rows.new.column)) (many c.args.codes.now c.args.columns.now.items c.args.groups.now.items c.args.len c.requires.are c.args.number c.requires.among c.args.first c.args.last c.requires.rows c.index.result.now c.index.ensures c.index-2.result.now c.index-2.ensures)) c.index-3.ensures) in
     omega (arith, used_before, used_few c.args.codes.now c.args.columns.now.items c.args.groups.now.items c.args.len c.requires.are c.args.number c.requires.among c.args.first c.args.last c.requires.rows c.index_mut.result.now c.index_mut.ensures.value c.index_mut-2.result.now c.index_mut-2.ensures.value c.release.new.codes freed c.empty_rows.new.column c.empty_rows.ensures.slots c.empty_rows.new.groups c.empty_rows.ensures.codes)
 
 pub returns-clause-are : goal.returns-clause-are
@@ -40,11 +40,11 @@ returns-clause-are c =
     let columns : List SlotRows = c.args.columns.now.items in
     let after : List SlotRows = slice_set columns c.args.number c.empty_rows.new.column in
     let freed : AreReturned c.args.codes.now c.release.new.codes (take (c.args.last + 1 - c.args.first) (drop (c.args.first - 1) (column_at (slots_of columns) c.args.number))) =
-        returned_by c.args.codes.now c.args.columns.now.items c.args.groups.now.items c.args.len c.requires.are c.args.number c.requires.among c.args.first c.args.last c.requires.rows c.index.result.now c.index.ensures c.index-2.result.now c.index-2.ensures c.release.new.codes c.groups.result.now c.groups.ensures c.release.ensures in
+    returned_by c.args.codes.now c.args.columns.now.items c.args.groups.now.items c.args.len c.requires.are c.args.number c.requires.among c.args.first c.args.last c.requires.rows c.index.result.now c.index.ensures c.index-2.result.now c.index-2.ensures c.release.new.codes c.groups.result.now c.groups.ensures c.release.ensures in
     let used_before : c.used-used.result ≡ count_by is_filled (column_at (slots_of columns) c.args.number) =
-        c.used-used.ensures ∙ ap (count_by is_filled) (slots_are c.args.codes.now c.args.columns.now.items c.args.groups.now.items c.args.len c.requires.are c.args.number c.requires.among c.args.first c.args.last c.requires.rows c.index.result.now c.index.ensures c.index-2.result.now c.index-2.ensures) in
+    c.used-used.ensures ∙ ap (count_by is_filled) (slots_are c.args.codes.now c.args.columns.now.items c.args.groups.now.items c.args.len c.requires.are c.args.number c.requires.among c.args.first c.args.last c.requires.rows c.index.result.now c.index.ensures c.index-2.result.now c.index-2.ensures) in
     let used_after : c.used.result ≡ count_by is_filled (column_at (slots_of after) c.args.number) =
-        c.used.ensures ∙ ap (count_by is_filled) (column_is after c.args.number c.index-3.result.now (subst (λ n. c.args.number < n) (sym (length-set columns c.args.number c.empty_rows.new.column)) (many c.args.codes.now c.args.columns.now.items c.args.groups.now.items c.args.len c.requires.are c.args.number c.requires.among c.args.first c.args.last c.requires.rows c.index.result.now c.index.ensures c.index-2.result.now c.index-2.ensures)) c.index-3.ensures) in
+    c.used.ensures ∙ ap (count_by is_filled) (column_is after c.args.number c.index-3.result.now (subst (λ n. c.args.number < n) (sym (length-set columns c.args.number c.empty_rows.new.column)) (many c.args.codes.now c.args.columns.now.items c.args.groups.now.items c.args.len c.requires.are c.args.number c.requires.among c.args.first c.args.last c.requires.rows c.index.result.now c.index.ensures c.index-2.result.now c.index-2.ensures)) c.index-3.ensures) in
     let same : c.args.len + count_by is_filled (column_at (slots_of after) c.args.number) - count_by is_filled (column_at (slots_of columns) c.args.number) ≡ c.args.len + c.used.result - c.used-used.result = omega (arith, used_before, used_after) in
     subst (λ n. AreColumns c.release.new.codes after (slice_set c.args.groups.now.items c.args.number c.empty_rows.new.groups) n)
     same
@@ -55,5 +55,5 @@ returns-clause-cells c =
     let columns : List SlotRows = c.args.columns.now.items in
     let after : List SlotRows = slice_set columns c.args.number c.empty_rows.new.column in
     let freed : AreReturned c.args.codes.now c.release.new.codes (take (c.args.last + 1 - c.args.first) (drop (c.args.first - 1) (column_at (slots_of columns) c.args.number))) =
-        returned_by c.args.codes.now c.args.columns.now.items c.args.groups.now.items c.args.len c.requires.are c.args.number c.requires.among c.args.first c.args.last c.requires.rows c.index.result.now c.index.ensures c.index-2.result.now c.index-2.ensures c.release.new.codes c.groups.result.now c.groups.ensures c.release.ensures in
+    returned_by c.args.codes.now c.args.columns.now.items c.args.groups.now.items c.args.len c.requires.are c.args.number c.requires.among c.args.first c.args.last c.requires.rows c.index.result.now c.index.ensures c.index-2.result.now c.index-2.ensures c.release.new.codes c.groups.result.now c.groups.ensures c.release.ensures in
     cells_left c.args.codes.now c.args.columns.now.items c.args.groups.now.items c.args.len c.requires.are c.args.number c.requires.among c.args.first c.args.last c.requires.rows c.index_mut.result.now c.index_mut.ensures.value c.index_mut-2.result.now c.index_mut-2.ensures.value c.release.new.codes freed c.empty_rows.new.column c.empty_rows.ensures.slots c.empty_rows.new.groups c.empty_rows.ensures.codes

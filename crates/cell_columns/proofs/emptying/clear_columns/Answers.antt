@@ -1,4 +1,4 @@
-use Rattle.std.proofs.Common.{◌≡◌, ℕ, ◌+◌, ◌-◌, ◌≤◌, ◌<◌, sym, ap, ◌∙◌, arith}
+use Rattle.std.proofs.Common.{◌≡◌, ◌+◌, sym, ap, ◌∙◌, arith}
 use Rattle.cell_columns.specs.Cells.{cells_of}
 use Rattle.cell_columns.specs.Emptied.{without_rows}
 use Rattle.cell_columns.specs.Lent.{slots_of}

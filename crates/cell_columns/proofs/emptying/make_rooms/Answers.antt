@@ -1,5 +1,5 @@
-use Rattle.std.proofs.Common.{◌≡◌, ◌∙◌, ap, sym, arith}
-use Rattle.cell_columns.proofs.Rooms.{more_room, no_room}
+use Rattle.std.proofs.Common.{◌∙◌}
+use Rattle.cell_columns.proofs.Rooms.{more_room}
 use Rattle.cell_columns.proofs.emptying.make_rooms.Goals as goal
 
 pub loop-number-preserved : goal.loop-number-preserved

@@ -1,4 +1,4 @@
-use Rattle.std.proofs.Common.{◌≡◌, ℕ, ◌+◌, ◌-◌, ◌≤◌, ◌<◌, ◌==◌, cond, length, take, refl, sym, ap, subst, ◌∙◌, arith}
+use Rattle.std.proofs.Common.{◌≡◌, ℕ, ◌+◌, ◌-◌, ◌≤◌, ◌==◌, cond, take, refl, sym, subst, arith}
 use Rattle.formula_code.specs.Codes.{uses_at}
 use Rattle.cell_columns.specs.Freed.{formulas_among, overlap, uses_among}
 use Rattle.cell_columns.specs.Taken.{AreFreed}
@@ -38,7 +38,7 @@ loop-group-preserved c =
       | then-from-to w ↦
           let enough_uses : n ≤ uses_at c.loop-group.codes g.code = omega (arith, enough first last gs i g c.group-item.is c.loop-group-test.true g.code refl, c.requires.uses g.code, before.uses g.code, c.min-to.ensures, c.max-from.ensures) in
           let step : AreFreed c.loop-group.codes w.give_back.new.self (λ id. cond (id == g.code) n 0) n =
-              freed_uses c.loop-group.codes w.give_back.new.self g.code n (live c.loop-group.codes g.code (omega (arith, enough_uses, w.if-from-to.true))) enough_uses w.give_back.ensures in
+          freed_uses c.loop-group.codes w.give_back.new.self g.code n (live c.loop-group.codes g.code (omega (arith, enough_uses, w.if-from-to.true))) enough_uses w.give_back.ensures in
           subst (λ k. AreFreed c.args.codes.now k (λ id. uses_among id first last (take (i + 1) gs)) (formulas_among first last (take (i + 1) gs))) (sym w.codes-is)
           (freed_more first last gs i g c.group-item.is c.loop-group-test.true c.args.codes.now c.loop-group.codes w.give_back.new.self n is before step)
       | else-from-to w ↦

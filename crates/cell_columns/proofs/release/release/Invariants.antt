@@ -1,4 +1,4 @@
-use Rattle.std.proofs.Common.{ℕ, take}
+use Rattle.std.proofs.Common.{take}
 use Rattle.cell_columns.specs.Freed.{formulas_among, uses_among}
 use Rattle.cell_columns.specs.Taken.{AreFreed}
 use Rattle.cell_columns.proofs.release.release.Given as goal

@@ -1,6 +1,5 @@
-use Rattle.std.proofs.Common.{◌≡◌, ℕ, ◌+◌, ◌-◌, ◌≤◌, ◌<◌, [], ◌∷◌, List, Option, Some, None, length, map, refl, sym, ap, subst, ◌∙◌, arith}
+use Rattle.std.proofs.Common.{subst}
 use Rattle.std.proofs.lemmas.Result.{IfOk-weaker}
-use Rattle.calc_model.specs.Formed.{is_formed}
 use Rattle.calc_model.specs.declared.content.Content.TheVariants.{Formula}
 use Rattle.block_column.specs.declared.slot.Slot.TheVariants as slot
 use Rattle.formula_code.specs.Codes.{IsInterned}

@@ -1,4 +1,4 @@
-use Rattle.std.proofs.Common.{◌≡◌, ap, ◌∙◌}
+use Rattle.std.proofs.Common.{ap, ◌∙◌}
 use Rattle.calc_addr.specs.Places.{Rectangle}
 use Rattle.calc_model.specs.CellEdits.{CellEntries, without_area}
 use Rattle.cell_columns.specs.Cells.{cells_of}

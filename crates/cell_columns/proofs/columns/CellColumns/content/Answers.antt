@@ -1,6 +1,5 @@
-use Rattle.std.proofs.Common.{◌≡◌, sym, ap, ◌∙◌}
+use Rattle.std.proofs.Common.{sym, ap, ◌∙◌}
 use Rattle.std.proofs.lemmas.Result.{IfOk-weaker}
-use Rattle.calc_addr.specs.Places.{Place}
 use Rattle.calc_model.specs.Books.{content_at}
 use Rattle.calc_model.specs.CellEdits.{CellEntries}
 use Rattle.cell_columns.specs.Cells.{cells_only, content_of, slot_at}
@@ -14,8 +13,8 @@ returns c =
     let columns = slots_of c.self.inside.columns.items in
     IfOk-weaker c.content_at.result _ _
     (λ content is.
-      is
-      ∙ ap (λ cs. content_of codes c.args.cell (slot_at (slots_of cs) c.args.cell)) c.as_slice.ensures.value
-      ∙ sym (holds codes columns c.args.cell c.content_at.ensures.place)
-      ∙ ap (λ (es : CellEntries). content_at (cells_only es) c.args.cell) c.self.view_is)
+    is
+    ∙ ap (λ cs. content_of codes c.args.cell (slot_at (slots_of cs) c.args.cell)) c.as_slice.ensures.value
+    ∙ sym (holds codes columns c.args.cell c.content_at.ensures.place)
+    ∙ ap (λ (es : CellEntries). content_at (cells_only es) c.args.cell) c.self.view_is)
     c.content_at.ensures.content

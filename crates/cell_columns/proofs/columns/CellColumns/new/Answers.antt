@@ -1,4 +1,4 @@
-use Rattle.std.proofs.Common.{◌≡◌, ℕ, ◌+◌, ◌-◌, ◌≤◌, ◌<◌, [], ◌∷◌, List, Option, Some, None, length, map, refl, sym, ap, subst, ◌∙◌, arith}
+use Rattle.std.proofs.Common.{ap, ◌∙◌}
 use Rattle.cell_columns.proofs.Nothing.{empty_cells, empty_columns_are}
 use Rattle.cell_columns.specs.Cells.{cells_of}
 use Rattle.cell_columns.proofs.columns.CellColumns.new.Goals as goal
