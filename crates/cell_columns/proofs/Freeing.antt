@@ -9,9 +9,6 @@ use Rattle.cell_columns.specs.Freed.{formulas_among, overlap, uses_among}
 use Rattle.cell_columns.specs.Taken.{AreFreed}
 use Rattle.cell_columns.proofs.Uses.{freed_then}
 
-pub freed_nothing : (codes : Codes) (first last : ℕ) (groups : List Group) → AreFreed codes codes (λ id. uses_among id first last (take 0 groups)) (formulas_among first last (take 0 groups))
-freed_nothing codes first last groups = record { uses = λ id. omega arith; total = omega arith; live = λ id now. now; forms = λ id was now. refl }
-
 module _ (first last : ℕ) (groups : List Group) (i : ℕ) (g : Group) (here : g ≡ slice_index_or groups i g) (within : i < length groups) where
   abbrev use_among : ℕ → Group → ℕ
   use_among id g = cond (id == g.code) (overlap first last g) 0

@@ -24,9 +24,6 @@ pub record RoomMade (columns now : List SlotRows) (groups groups_now : List Grou
   pub codes : codes_of groups_now ≡ codes_of groups
   pub room : HaveRoom now groups_now from number
 
-pub no_room : (columns : List SlotRows) (groups : List GroupRows) (from : ℕ) → HaveRoom columns groups from from
-no_room columns groups from = record { slots = λ n h k. absurd (omega (arith, h, k)); codes = λ n h k. absurd (omega (arith, h, k)) }
-
 pub more_room : (columns now : List SlotRows) (groups groups_now : List GroupRows) (from number : ℕ) → HaveRoom columns groups from number → ((n : ℕ) → n ≢ number → (d : SlotRows) → slice_index_or now n d ≡ slice_index_or columns n d) → ((n : ℕ) → n ≢ number → (d : GroupRows) → slice_index_or groups_now n d ≡ slice_index_or groups n d) → ((d : SlotRows) → 1 ≤ (slice_index_or now number d).spare) → ((d : GroupRows) → 1 ≤ (slice_index_or groups_now number d).spare) → HaveRoom now groups_now from (number + 1)
 more_room columns now groups groups_now from number room columns_stay groups_stay slots codes = record {
   slots = λ n h k d. elim (n == number) as (λ b. (n == number) ≡ b → 1 ≤ (slice_index_or now n d).spare) [

@@ -106,14 +106,6 @@ returned_one old new id some changes (slot.Formula other) is =
     (let freed : AreFreed old new (λ i. cond (i == id) 1 0) 1 = freed_uses old new id 1 (live old id some) some changes in
     record { uses = λ i. omega (arith, freed.uses i, single (use_of i) (slot.Formula id)); total = omega (arith, freed.total); live = freed.live; forms = freed.forms })
 
-pub returned_none : (codes : Codes) (x : Slot) → code_in x ≡ None → AreReturned codes codes (x ∷ [])
-returned_none codes slot.Empty is = record { uses = λ i. omega arith; total = omega arith; live = λ i now. now; forms = λ i was now. refl }
-returned_none codes (slot.Number n) is = record { uses = λ i. omega arith; total = omega arith; live = λ i now. now; forms = λ i was now. refl }
-returned_none codes (slot.Words text) is = record { uses = λ i. omega arith; total = omega arith; live = λ i now. now; forms = λ i was now. refl }
-returned_none codes (slot.Bad fault) is = record { uses = λ i. omega arith; total = omega arith; live = λ i now. now; forms = λ i was now. refl }
-returned_none codes (slot.Raw text) is = record { uses = λ i. omega arith; total = omega arith; live = λ i now. now; forms = λ i was now. refl }
-returned_none codes (slot.Formula id) is = cc
-
 pub taken_none : (codes : Codes) (x : Slot) → code_in x ≡ None → IsTaken codes codes x
 taken_none codes slot.Empty is = record { uses = λ i. omega arith; total = omega arith; live = λ i now. now; forms = λ i was now. refl }
 taken_none codes (slot.Number n) is = record { uses = λ i. omega arith; total = omega arith; live = λ i now. now; forms = λ i was now. refl }
@@ -176,14 +168,6 @@ constant_slot codes home value x is = record {
   fit = λ _. is.kind;
   coded = λ id formula. let none : Some id ≡ None = ap code_in (sym formula) ∙ is.without_code in cc;
   taken = taken_none codes x is.without_code;
-}
-
-pub plain_slot : (codes : Codes) (home : Place) (x : Slot) → code_in x ≡ None → (is_filled x ≡ true → is_content (content_of codes home x) ≡ true) → IsSlotOf codes codes home (content_of codes home x) x
-plain_slot codes home x none fit = record {
-  holds = refl;
-  fit = fit;
-  coded = λ id formula. let not : Some id ≡ None = ap code_in (sym formula) ∙ none in cc;
-  taken = taken_none codes x none;
 }
 
 -- empty slots use no code
