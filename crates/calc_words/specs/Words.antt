@@ -1,5 +1,5 @@
 -- The words of the command `calc [--workers N] BOOK`, as clap's matches.
-use Rattle.std.specs.Prelude.{ℕ, List, [], ◌∷◌, pos, codes, true, Option, Some, None, option_and_then, option_map}
+use Rattle.std.specs.Prelude.{◌≡◌, ◌⊎◌, ℕ, List, [], ◌∷◌, pos, codes, true, Option, Some, None, option_and_then, option_map}
 use Rattle.std.specs.Str.Parse.{digits_value, without_leading_plus}
 use Rattle.clap.specs.Words.{App, Kinds, Row, Rule, Shape, fault_of, first_of, matches_of, new_app, new_rule, one_of, with_rule}
 use Rattle.clap.specs.Simple.{on_top}
@@ -49,3 +49,7 @@ words_of words = unless_refused (fault_of calc_app words) (words_in (matches_of 
 -- the book's name, where the words are of the command
 abbrev pub book_name : List (List ℕ) → Option (List ℕ)
 book_name words = option_map (λ said. said.book) (words_of words)
+
+-- one of two words is all that they are
+abbrev pub IsEither : List ℕ → List ℕ → List (List ℕ) → Type 0
+IsEither long short words = (words ≡ long ∷ []) ⊎ (words ≡ short ∷ [])

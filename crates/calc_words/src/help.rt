@@ -1,6 +1,6 @@
 //! What `--help` and `--version` ask for.
-ghost use Rattle.calc_words.specs.Words.{words_of};
-ghost use Rattle.std.specs.Prelude.{◌≡◌, IsSome, None};
+ghost use Rattle.calc_words.specs.Words.{IsEither, words_of};
+ghost use Rattle.std.specs.Prelude.{◌≡◌, ◌⊎◌, IfSome, IsSome, None, codes};
 
 use calc_model::Text;
 
@@ -29,6 +29,12 @@ pub const VERSION: &str = "calc 0.1.0
 /// these is of the command.
 pub fn answer(words: &[Text]) -> Option<&'static str>
     ensures refused { IsSome result → words_of words.now ≡ None }
+    ensures help { IsEither (codes "--help") (codes "-h") words.now
+        → IfSome result (λ text. text.now ≡ HELP.now) }
+    ensures version { IsEither (codes "--version") (codes "-V") words.now
+        → IfSome result (λ text. text.now ≡ VERSION.now) }
+    ensures only { IsSome result → IsEither (codes "--help") (codes "-h") words.now
+        ⊎ IsEither (codes "--version") (codes "-V") words.now }
 {
     match words {
         [word] => match word.as_str() {
