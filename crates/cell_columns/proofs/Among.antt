@@ -1,6 +1,7 @@
 -- How many of some rows have a code, by their groups and by their slots.
 use Rattle.std.proofs.Common.{◌≡◌, ℕ, suc, zero, ◌+◌, ◌-◌, ◌≤◌, ◌<◌, ◌==◌, ◌&&◌, nat_le, max, min, Bool, true, false, cond, List, [], ◌∷◌, take, drop, map, Option, Some, None, refl, sym, ap, ◌∙◌, arith}
 use Rattle.std.specs.Prelude.{sum_by}
+use Rattle.std.specs.Bool.{Decides}
 use Rattle.std.proofs.lemmas.Bool.Decides.{Decides-eqb, nat_tests}
 use Rattle.std.proofs.lemmas.List.Sums.{sum_by-cons}
 use Rattle.calc_model.proofs.Areas.{both_true}
@@ -20,61 +21,64 @@ nought = 0
 abbrev same_code : ℕ → ℕ → Bool
 same_code k l = k == l
 
-module _ (counts : ℕ → Bool) (first last : ℕ) (order : first ≤ last) where
-  abbrev over : Run ℕ → ℕ
+coded : (k l : ℕ) → Decides (same_code k l) (k ≡ l)
+coded k l = Decides-eqb k l
+
+module _ {K : Type 0} (same : K → K → Bool) (decides : (k l : K) → Decides (same k l) (k ≡ l)) (counts : K → Bool) (first last : ℕ) (order : first ≤ last) where
+  abbrev over : Run K → ℕ
   over r = min r.last last + 1 - max r.first first
 
-  abbrev weight : Run ℕ → ℕ
+  abbrev weight : Run K → ℕ
   weight r = cond (counts r.key) (over r) 0
 
-  abbrev row : Option ℕ → ℕ
+  abbrev row : Option K → ℕ
   row (Some k) = cond (counts k) 1 0
   row None = 0
 
   -- the rows from p on that lie between the first and the last
-  abbrev between : ℕ → List (Option ℕ) → ℕ
+  abbrev between : ℕ → List (Option K) → ℕ
   between p [] = 0
   between p (x ∷ s) = cond (nat_le first p && nat_le p last) (row x) 0 + between (p + 1) s
 
-  over_both : (r x : Run ℕ) → r.last + 1 ≡ x.first → r.first ≤ r.last → x.first ≤ x.last → over (record r { last = x.last }) ≡ over r + over x
+  over_both : (r x : Run K) → r.last + 1 ≡ x.first → r.first ≤ r.last → x.first ≤ x.last → over (record r { last = x.last }) ≡ over r + over x
   over_both r x next from to = grind (arith, next, from, to, order)
 
-  both_weights : (r x : Run ℕ) → r.key ≡ x.key → over (record r { last = x.last }) ≡ over r + over x → weight (record r { last = x.last }) ≡ weight r + weight x
+  both_weights : (r x : Run K) → r.key ≡ x.key → over (record r { last = x.last }) ≡ over r + over x → weight (record r { last = x.last }) ≡ weight r + weight x
   both_weights r x key sum =
       elim (counts r.key) as (λ b. counts r.key ≡ b → cond b (over (record r { last = x.last })) 0 ≡ cond b (over r) 0 + cond (counts x.key) (over x) 0) [
         | true ↦ λ is. sum ∙ ap (λ b. over r + cond b (over x) 0) (sym is ∙ ap counts key)
         | false ↦ λ is. ap (λ b. 0 + cond b (over x) 0) (sym is ∙ ap counts key)
       ] refl
 
-  meet_sum : (r : Run ℕ) (t : List (Run ℕ)) → r.first ≤ r.last → Rises (r.last + 1) t → sum_by weight (meet same_code r t) ≡ weight r + sum_by weight t
+  meet_sum : (r : Run K) (t : List (Run K)) → r.first ≤ r.last → Rises (r.last + 1) t → sum_by weight (meet same r t) ≡ weight r + sum_by weight t
   meet_sum r [] from rise = sum_by-cons weight r []
   meet_sum r (x ∷ t) from rise =
-      elim (touches same_code r x) as (λ b. touches same_code r x ≡ b → sum_by weight (cond b (record r { last = x.last } ∷ t) (r ∷ x ∷ t)) ≡ weight r + sum_by weight (x ∷ t)) [
+      elim (touches same r x) as (λ b. touches same r x ≡ b → sum_by weight (cond b (record r { last = x.last } ∷ t) (r ∷ x ∷ t)) ≡ weight r + sum_by weight (x ∷ t)) [
         | true ↦ λ is.
-            let parts = both_true (r.last + 1 == x.first) (same_code r.key x.key) is in
+            let parts = both_true (r.last + 1 == x.first) (same r.key x.key) is in
             let sum : weight (record r { last = x.last }) ≡ weight r + weight x =
-            both_weights r x ((Decides-eqb r.key x.key).0 parts.1) (over_both r x ((Decides-eqb (r.last + 1) x.first).0 parts.0) from rise.1) in
+            both_weights r x ((decides r.key x.key).0 parts.1) (over_both r x ((Decides-eqb (r.last + 1) x.first).0 parts.0) from rise.1) in
             omega (arith, sum, sum_by-cons weight (record r { last = x.last }) t, sum_by-cons weight x t)
         | false ↦ λ _. sum_by-cons weight r (x ∷ t)
       ] refl
 
-  one_row : (p k : ℕ) → weight (record { first = p; last = p; key = k }) ≡ cond (nat_le first p && nat_le p last) (row (Some k)) 0
+  one_row : (p : ℕ) (k : K) → weight (record { first = p; last = p; key = k }) ≡ cond (nat_le first p && nat_le p last) (row (Some k)) 0
   one_row p k =
       elim (counts k) as (λ b. cond b (min p last + 1 - max p first) 0 ≡ cond (nat_le first p && nat_le p last) (cond b 1 0) 0) [
         | true ↦ grind (arith, nat_tests, order)
         | false ↦ elim (nat_le first p && nat_le p last) as (λ c. nought ≡ cond c nought nought) [ true ↦ refl | false ↦ refl ]
       ]
 
-  runs_sum : (p : ℕ) (s : List (Option ℕ)) → sum_by weight (runs_from same_code p s) ≡ between p s
+  runs_sum : (p : ℕ) (s : List (Option K)) → sum_by weight (runs_from same p s) ≡ between p s
   runs_sum p [] = refl
   runs_sum p (None ∷ s) =
       runs_sum (p + 1) s ∙ elim (nat_le first p && nat_le p last) as (λ c. between (p + 1) s ≡ cond c 0 0 + between (p + 1) s) [ true ↦ omega arith | false ↦ omega arith ]
   runs_sum p (Some k ∷ s) =
-      meet_sum (record { first = p; last = p; key = k }) (runs_from same_code (p + 1) s) (omega arith) (runs-rise same_code (λ k l. Decides-eqb k l) (p + 1) s)
+      meet_sum (record { first = p; last = p; key = k }) (runs_from same (p + 1) s) (omega arith) (runs-rise same decides (p + 1) s)
       ∙ omega (arith, one_row p k, runs_sum (p + 1) s)
 
   -- from the first row on, as many as are left
-  from_first : (p : ℕ) (s : List (Option ℕ)) → first ≤ p → p ≤ last + 1 → between p s ≡ sum_by row (take (last + 1 - p) s)
+  from_first : (p : ℕ) (s : List (Option K)) → first ≤ p → p ≤ last + 1 → between p s ≡ sum_by row (take (last + 1 - p) s)
   from_first p [] from to = elim (last + 1 - p) as (λ n. 0 ≡ sum_by row (take n [])) [ zero ↦ refl | suc n ↦ refl ]
   from_first p (x ∷ s) from to =
       elim (nat_le p last) as (λ b. nat_le p last ≡ b → cond (nat_le first p && b) (row x) 0 + between (p + 1) s ≡ sum_by row (take (last + 1 - p) (x ∷ s))) [
@@ -92,7 +96,7 @@ module _ (counts : ℕ → Bool) (first last : ℕ) (order : first ≤ last) whe
             ∙ ap (λ n. sum_by row (take n (x ∷ s))) (sym past)
       ] refl
     where
-      none_past : (p : ℕ) (s : List (Option ℕ)) → last < p → between p s ≡ 0
+      none_past : (p : ℕ) (s : List (Option K)) → last < p → between p s ≡ 0
       none_past p [] h = refl
       none_past p (x ∷ s) h =
           let out : nat_le p last ≡ false = grind (arith, nat_tests, h) in
@@ -106,15 +110,15 @@ module _ (counts : ℕ → Bool) (first last : ℕ) (order : first ≤ last) whe
   nothing (suc n) zero = refl
   nothing (suc n) (suc m) = refl
 
-  to_first : (p : ℕ) (s : List (Option ℕ)) → p ≤ first → between p s ≡ sum_by row (take (last + 1 - first) (drop (first - p) s))
+  to_first : (p : ℕ) (s : List (Option K)) → p ≤ first → between p s ≡ sum_by row (take (last + 1 - first) (drop (first - p) s))
   to_first p [] from = nothing (last + 1 - first) (first - p)
   to_first p (x ∷ s) from =
       elim (nat_le first p) as (λ b. nat_le first p ≡ b → between p (x ∷ s) ≡ sum_by row (take (last + 1 - first) (drop (first - p) (x ∷ s)))) [
         | true ↦ λ is.
-            let same : p ≡ first = grind (arith, nat_tests, is, from) in
-            let none : first - p ≡ 0 = omega (arith, same) in
-            from_first p (x ∷ s) (omega (arith, same)) (omega (arith, same, order))
-            ∙ ap (λ n. sum_by row (take (last + 1 - n) (x ∷ s))) same
+            let at : p ≡ first = grind (arith, nat_tests, is, from) in
+            let none : first - p ≡ 0 = omega (arith, at) in
+            from_first p (x ∷ s) (omega (arith, at)) (omega (arith, at, order))
+            ∙ ap (λ n. sum_by row (take (last + 1 - n) (x ∷ s))) at
             ∙ ap (λ n. sum_by row (take (last + 1 - first) (drop n (x ∷ s)))) (sym none)
         | false ↦ λ is.
             let below : p < first = grind (arith, nat_tests, is) in
@@ -125,7 +129,7 @@ module _ (counts : ℕ → Bool) (first last : ℕ) (order : first ≤ last) whe
       ] refl
 
   -- the rows of a column, by its runs
-  pub rows_sum : 1 ≤ first → (s : List (Option ℕ)) → sum_by weight (runs_of same_code s) ≡ sum_by row (take (last + 1 - first) (drop (first - 1) s))
+  pub rows_sum : 1 ≤ first → (s : List (Option K)) → sum_by weight (runs_of same s) ≡ sum_by row (take (last + 1 - first) (drop (first - 1) s))
   rows_sum from s = runs_sum 1 s ∙ to_first 1 s from
 
 sum_map : {X Y : Type 0} (g : X → Y) (f : Y → ℕ) (xs : List X) → sum_by f (map g xs) ≡ sum_by (λ x. f (g x)) xs
@@ -151,7 +155,7 @@ codes_taken zero zero (x ∷ c) = refl
 codes_taken (suc n) zero (x ∷ c) = ap (λ t. code_in x ∷ t) (codes_taken n zero c)
 codes_taken n (suc m) (x ∷ c) = codes_taken n m c
 
-use_coded : (id : ℕ) (x : Slot) → row (λ k. id == k) 1 1 (omega arith) (code_in x) ≡ use_of id x
+use_coded : (id : ℕ) (x : Slot) → row same_code coded (λ k. id == k) 1 1 (omega arith) (code_in x) ≡ use_of id x
 use_coded id slot.Empty = refl
 use_coded id (slot.Number n) = refl
 use_coded id (slot.Words text) = refl
@@ -163,12 +167,12 @@ use_coded id (slot.Formula other) = refl
 pub uses_alike : (id first last : ℕ) (c : Column) → 1 ≤ first → first ≤ last → uses_among id first last (groups_of (codes_in c)) ≡ sum_by (use_of id) (take (last + 1 - first) (drop (first - 1) c))
 uses_alike id first last c from order =
     sum_map a_group (λ (g : Group). cond (id == g.code) (min g.last last + 1 - max g.first first) 0) (runs_of same_code (codes_in c))
-    ∙ rows_sum (λ k. id == k) first last order from (codes_in c)
-    ∙ ap (sum_by (row (λ k. id == k) first last order)) (codes_taken (last + 1 - first) (first - 1) c)
-    ∙ sum_map code_in (row (λ k. id == k) first last order) (take (last + 1 - first) (drop (first - 1) c))
-    ∙ sum_alike (λ x. row (λ k. id == k) first last order (code_in x)) (use_of id) (use_coded id) (take (last + 1 - first) (drop (first - 1) c))
+    ∙ rows_sum same_code coded (λ k. id == k) first last order from (codes_in c)
+    ∙ ap (sum_by (row same_code coded (λ k. id == k) first last order)) (codes_taken (last + 1 - first) (first - 1) c)
+    ∙ sum_map code_in (row same_code coded (λ k. id == k) first last order) (take (last + 1 - first) (drop (first - 1) c))
+    ∙ sum_alike (λ x. row same_code coded (λ k. id == k) first last order (code_in x)) (use_of id) (use_coded id) (take (last + 1 - first) (drop (first - 1) c))
 
-one_coded : (x : Slot) → row (λ k. true) 1 1 (omega arith) (code_in x) ≡ formula_of x
+one_coded : (x : Slot) → row same_code coded (λ k. true) 1 1 (omega arith) (code_in x) ≡ formula_of x
 one_coded slot.Empty = refl
 one_coded (slot.Number n) = refl
 one_coded (slot.Words text) = refl
@@ -179,7 +183,7 @@ one_coded (slot.Formula id) = refl
 pub formulas_alike : (first last : ℕ) (c : Column) → 1 ≤ first → first ≤ last → formulas_among first last (groups_of (codes_in c)) ≡ sum_by formula_of (take (last + 1 - first) (drop (first - 1) c))
 formulas_alike first last c from order =
     sum_map a_group (λ (g : Group). min g.last last + 1 - max g.first first) (runs_of same_code (codes_in c))
-    ∙ rows_sum (λ k. true) first last order from (codes_in c)
-    ∙ ap (sum_by (row (λ k. true) first last order)) (codes_taken (last + 1 - first) (first - 1) c)
-    ∙ sum_map code_in (row (λ k. true) first last order) (take (last + 1 - first) (drop (first - 1) c))
-    ∙ sum_alike (λ x. row (λ k. true) first last order (code_in x)) formula_of one_coded (take (last + 1 - first) (drop (first - 1) c))
+    ∙ rows_sum same_code coded (λ k. true) first last order from (codes_in c)
+    ∙ ap (sum_by (row same_code coded (λ k. true) first last order)) (codes_taken (last + 1 - first) (first - 1) c)
+    ∙ sum_map code_in (row same_code coded (λ k. true) first last order) (take (last + 1 - first) (drop (first - 1) c))
+    ∙ sum_alike (λ x. row same_code coded (λ k. true) first last order (code_in x)) formula_of one_coded (take (last + 1 - first) (drop (first - 1) c))
