@@ -1,15 +1,15 @@
 ghost use Rattle.calc_model.specs.Field.{error_constants};
 ghost use Rattle.calc_model.specs.ValueTexts.{fault_text};
 ghost use Rattle.calc_model.specs.declared.fault.Fault.{Fault};
-ghost use Rattle.formula_reader.specs.Leaves.{behind_quote, error_at, number_at, operand_at, reference_at, string_at, text_behind, token_by, token_taken, unquoted};
+ghost use Rattle.formula_reader.specs.Leaves.{behind_quote, error_at, number_at, operand_at, string_at, text_behind, token_by, token_taken, unquoted};
 ghost use Rattle.formula_reader.specs.Unread.{Gives, Makes, unread_of};
 ghost use Rattle.std.specs.List.{find, starts_with};
 ghost use Rattle.std.specs.Prelude.{false, length, nat_eq, option_map, ◌≡◌, ◌≤◌};
 
 use crate::constant::ERROR_CONSTANTS;
 use crate::cursor::{Cursor, Stop};
+use crate::references::reference;
 use byte_cuts::split_once;
-use calc_addr::read_ref;
 use calc_model::{Fault, Text, Tree};
 use calc_num::{Num, Reading, unsigned_len};
 use std::alloc::Global;
@@ -86,20 +86,6 @@ fn behind_quote(bytes: &[u8]) -> Option<&[u8]>
         [QUOTE, rest @ ..] => Some(rest),
         _ => None,
     }
-}
-
-/// A reference, behind its bracket.
-fn reference<'a>(bytes: &'a [u8], cursor: &mut Cursor<'a>) -> Result<Tree, Stop>
-    ensures { Gives result cursor.new (token_taken cursor.old.tokens (reference_at bytes.now)) }
-{
-    let Some((inside, rest)) = split_once(bytes, b']') else {
-        return Err(Stop::Unspelled);
-    };
-    let Some(reference) = read_ref(inside) else {
-        return Err(Stop::Unspelled);
-    };
-    cursor.past(rest)?;
-    Ok(Tree::Ref(reference))
 }
 
 /// An error constant.
