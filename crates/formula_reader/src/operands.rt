@@ -1,18 +1,22 @@
 ghost use Rattle.formula_reader.specs.Operands.{args_at, attached, comparison_of, inside_of, operands_at, prefixed_at, primary_at, start_of, word_at};
 ghost use Rattle.formula_reader.specs.Unread.{Gives, unread_of};
-ghost use Rattle.std.specs.Prelude.{◌≡◌};
+ghost use Rattle.std.specs.Prelude.{IfOk, [], ◌∷◌, ◌≡◌};
 
 use crate::cursor::{Cursor, Stop};
 use crate::operators::{Operator, infix_level, take_operator};
-use crate::signs::{signed, take_signs};
+use crate::signs::{sign_in_front, signed, take_signs};
 use crate::tokens::operand;
 use crate::words::{capitals, name, split_word};
+use calc_addr::NoMemory;
 use calc_model::{MOST_PARAMETERS, Tree, begins_identifier, is_identifier};
 use sqlite_items::{Boxed, Items};
 use std::alloc::Global;
 
 /// The level of comparisons, which bind the least.
 pub(crate) const COMPARISON: u8 = 6;
+
+/// How many parameters a call has room for at first, where it has more than one.
+const FEW_PARAMETERS: usize = 4;
 
 /// A comparison inside a parenthesis, where so many may be opened with it.
 #[cycle(reading)]
@@ -71,10 +75,22 @@ fn attach(
     }
 }
 
+/// A primary, or prefix operators and the primary behind them.
+#[cycle(reading)]
+fn prefixed(alloc: Global, depth: u8, cursor: &mut Cursor<'_>) -> Result<Tree, Stop>
+    ensures { Gives result cursor.new (prefixed_at (inside_of depth) (unread_of cursor.old)) }
+{
+    match sign_in_front(cursor.bytes) {
+        None => primary(alloc, depth, cursor),
+        Some(_) => signed_primary(alloc, depth, cursor),
+    }
+}
+
 /// Prefix operators and the primary behind them. The operators are taken first, so that any number of
 /// them takes no stack.
 #[cycle(reading)]
-fn prefixed(alloc: Global, depth: u8, cursor: &mut Cursor<'_>) -> Result<Tree, Stop>
+#[inline(never)]
+fn signed_primary(alloc: Global, depth: u8, cursor: &mut Cursor<'_>) -> Result<Tree, Stop>
     ensures { Gives result cursor.new (prefixed_at (inside_of depth) (unread_of cursor.old)) }
 {
     let signs = take_signs(alloc, cursor)?;
@@ -144,11 +160,11 @@ fn word(alloc: Global, depth: u8, cursor: &mut Cursor<'_>) -> Result<Tree, Stop>
 fn arguments(alloc: Global, depth: u8, cursor: &mut Cursor<'_>) -> Result<Items<Tree>, Stop>
     ensures { Gives result cursor.new (args_at (inside_of depth) (unread_of cursor.old)) }
 {
-    let mut args = Items::new(alloc);
     if cursor.next_is(b')') {
-        return Ok(args);
+        return Ok(Items::new(alloc));
     }
-    args.push(comparison(alloc, depth, cursor)?)?;
+    let first = comparison(alloc, depth, cursor)?;
+    let mut args = first_argument(alloc, first, cursor.next_is(b';'))?;
     for _ in 1..MOST_PARAMETERS {
         if !cursor.next_is(b';') {
             return Ok(args);
@@ -157,4 +173,13 @@ fn arguments(alloc: Global, depth: u8, cursor: &mut Cursor<'_>) -> Result<Items<
         args.push(comparison(alloc, depth, cursor)?)?;
     }
     Ok(args)
+}
+
+/// The first parameter of a call, with room for no other one unless more come.
+fn first_argument(alloc: Global, first: Tree, more_come: bool) -> Result<Items<Tree>, NoMemory>
+    ensures { IfOk result (λ args. args ≡ first ∷ []) }
+{
+    let mut args = Vec::with_capacity(alloc, if more_come { FEW_PARAMETERS } else { 1 })?;
+    args.push(first)?;
+    Ok(Items::from_vec(args))
 }

@@ -30,7 +30,8 @@ fn take_sign(cursor: &mut Cursor<'_>) -> Result<Option<Sign>, Stop>
     }
 }
 
-fn sign_in_front(bytes: &[u8]) -> Option<(Sign, &[u8])>
+/// The sign at the front, and what stands behind it.
+pub(crate) fn sign_in_front(bytes: &[u8]) -> Option<(Sign, &[u8])>
     ensures { option_map (λ found. (found.0, found.1.now)) result ≡ sign_at bytes.now }
 {
     match bytes {
