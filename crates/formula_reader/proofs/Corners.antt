@@ -1,19 +1,19 @@
 -- The corners that are read from the left are those of the text in brackets.
 use Rattle.calc_addr.specs.declared.reference.Span.TheVariants as span
 use Rattle.calc_model.specs.declared.tree.Tree.TheVariants as t
-use Rattle.std.proofs.Common.{◌≡◌, ◌≤◌, ℕ, Bool, true, false, not, ◌&&◌, cond, Option, Some, None, List, [], ◌∷◌, ◌++◌, refl, sym, ap, ◌∙◌, append_assoc, arith}
+use Rattle.std.proofs.Common.{◌≡◌, ◌≤◌, ℕ, Bool, true, false, ◌&&◌, Option, Some, None, List, [], ◌∷◌, ◌++◌, refl, sym, ap, ◌∙◌, append_assoc, arith}
 use Rattle.std.specs.Prelude.{nat_le, option_map}
-use Rattle.std.specs.List.{after_first, list_all, list_any, prefix_len}
+use Rattle.std.specs.List.{after_first, list_any, prefix_len}
 use Rattle.std.specs.Option.{option_and_then, option_or}
 use Rattle.std.specs.Char.{is_ascii_alphabetic, is_ascii_digit}
 use Rattle.std.specs.Str.Parse.{digits_value}
 use Rattle.std.proofs.lemmas.Bool.{and_from, and_parts, cond-false, cond-true, le-leb, or_from}
 use Rattle.std.proofs.lemmas.Bool.Decides.{nat_tests}
 use Rattle.std.proofs.lemmas.List.Folds.{list_any-append}
-use Rattle.calc_addr.specs.Bracketed.{after_point, column_end, corner_ends, end_of, inside, is_marked, one_cell, row_end, spelled_reference, spelled_span, together, two_cells, two_columns, two_ends, two_rows, with_dollar}
+use Rattle.calc_addr.specs.Bracketed.{after_point, column_end, corner_ends, end_of, inside, is_marked, one_cell, row_end, spelled_reference, together, two_cells, two_columns, two_ends, two_rows, with_dollar}
 use Rattle.calc_addr.specs.Ends.{in_order, reference_of}
 use Rattle.calc_addr.specs.Letters.{column_number}
-use Rattle.calc_addr.specs.Spelling.{are_digits, are_letters, column_of, column_part, is_colon, row_of, row_part, undollared, up_to}
+use Rattle.calc_addr.specs.Spelling.{are_digits, are_letters, column_of, is_colon, row_of, row_part, up_to}
 use Rattle.calc_addr.specs.declared.read.Spelled.TheVariants.{Is}
 use Rattle.calc_addr.proofs.References.EndsInOrder.{in_order-same}
 use Rattle.calc_addr.proofs.Spelling.RoundTrip.{column_part-append, cut_at_first, digit_no_dollar, letter_no_dollar, list_all-are_digits, list_all-are_letters, list_any-none, no_letter_first, row_part-append, undollared-digits, undollared-letters, undollared-with_dollar}

@@ -1,16 +1,15 @@
 -- References without a sheet to a cell, or to the cells between two, as they are read from the left: each coordinate
 -- is a dollar sign, where one marks it, and letters or digits.
-use denote.Ref.{Bor}
 use Rattle.std.specs.Prelude.{◌≡◌, ◌≤◌, ◌^◌, ℕ, Bool, true, false, if◌then◌else◌, nat_le, min, List, ◌++◌, take, length, Option, Some, option_map}
 use Rattle.std.specs.List.{list_all, list_any}
 use Rattle.calc_addr.specs.Bracketed.{corner_ends, with_dollar}
 use Rattle.calc_addr.specs.References.{Reference}
 use Rattle.calc_addr.specs.Spelling.{is_colon}
 use Rattle.calc_addr.specs.declared.cell.TheConstants.{LAST_COL, LAST_ROW}
-use Rattle.calc_addr.specs.declared.reference.Span.TheVariants.{Cells, One}
-use Rattle.calc_model.specs.declared.tree.Tree.{Tree}
-use Rattle.calc_model.specs.declared.tree.Tree.TheVariants as t
+use Rattle.calc_addr.specs.declared.reference.Span.TheVariants as span
 use Rattle.formula_reader.specs.declared.references.Corner.{Corner}
+use Rattle.formula_reader.specs.declared.references.Corners.{Corners}
+use Rattle.formula_reader.specs.declared.references.Corners.TheVariants.{One, Two}
 use Rattle.formula_reader.specs.declared.references.End.{End}
 
 -- so many bytes pass the test, and a number is what they write, or the bound where that is greater
@@ -62,7 +61,7 @@ cell_reference corner = record {
     first_row = corner.row.at;
     last_row = corner.row.at;
   };
-  span = One;
+  span = span.One;
   marks = record {
     sheet = false;
     first_col = corner.col.marked;
@@ -84,7 +83,7 @@ corners_reference first last =
         first_row = rows.0.at;
         last_row = rows.1.at;
       };
-      span = Cells;
+      span = span.Cells;
       marks = record {
         sheet = false;
         first_col = cols.0.marked;
@@ -94,6 +93,11 @@ corners_reference first last =
       };
     }
 
--- a reference of the code, with what is left behind it
-abbrev pub ref_behind : Reference × Bor (List ℕ) → Tree × List ℕ
-ref_behind found = (t.Ref found.0, found.1.now)
+-- the corners lie in the sheet
+abbrev pub AreCorners : Corners → Type 0
+AreCorners (One corner) = IsCorner corner
+AreCorners (Two first last) = IsCorner first × IsCorner last
+
+abbrev pub reference_of : Corners → Reference
+reference_of (One corner) = cell_reference corner
+reference_of (Two first last) = corners_reference first last

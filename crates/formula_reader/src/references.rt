@@ -4,11 +4,12 @@ ghost use Rattle.calc_addr.specs.Bracketed.{with_dollar};
 ghost use Rattle.calc_addr.specs.Letters.{column_number};
 ghost use Rattle.calc_addr.specs.Spelling.{are_digits, are_letters};
 ghost use Rattle.calc_addr.specs.declared.cell.TheConstants.{LAST_COL, LAST_ROW};
-ghost use Rattle.formula_reader.specs.Corners.{IsCorner, IsEnd, IsInFront, IsNumbered, cell_reference, corners_reference, in_order, ref_behind};
+ghost use Rattle.calc_model.specs.declared.tree.Tree.TheVariants as t;
+ghost use Rattle.formula_reader.specs.Corners.{AreCorners, IsCorner, IsEnd, IsInFront, IsNumbered, cell_reference, corners_reference, in_order, reference_of};
 ghost use Rattle.formula_reader.specs.Leaves.{reference_at, token_taken};
 ghost use Rattle.formula_reader.specs.Unread.{Gives};
 ghost use Rattle.std.specs.Char.{is_ascii_alphabetic, is_ascii_digit};
-ghost use Rattle.std.specs.Prelude.{IfSome, Some, option_map, ◌∷◌, ◌≡◌};
+ghost use Rattle.std.specs.Prelude.{IfSome, Some, ◌∷◌, ◌≡◌};
 ghost use Rattle.std.specs.Str.Parse.{digits_value};
 
 use crate::cursor::{Cursor, Stop};
@@ -20,50 +21,49 @@ use calc_model::Tree;
 const FAR: u32 = 100_000_000;
 
 /// A reference, behind its bracket.
+#[inline(never)]
 pub(crate) fn reference<'a>(bytes: &'a [u8], cursor: &mut Cursor<'a>) -> Result<Tree, Stop>
     ensures { Gives result cursor.new (token_taken cursor.old.tokens (reference_at bytes.now)) }
 {
-    match reference_in_front(bytes) {
-        Some((reference, rest)) => {
+    match plain_corners(bytes) {
+        Some((corners, rest)) => {
             cursor.past(rest)?;
-            Ok(Tree::Ref(reference))
+            Ok(Tree::Ref(reference_of(corners)))
         }
-        None => Err(Stop::Unspelled),
-    }
-}
-
-/// The reference up to the first closing bracket, and what stands behind that.
-fn reference_in_front(bytes: &[u8]) -> Option<(Ref, &[u8])>
-    ensures { option_map ref_behind result ≡ reference_at bytes.now }
-{
-    match plain_reference(bytes) {
-        Some(found) => Some(found),
-        None => any_reference(bytes),
+        None => any_reference(bytes, cursor),
     }
 }
 
 /// The same, by its closing bracket.
 #[cold]
 #[inline(never)]
-fn any_reference(bytes: &[u8]) -> Option<(Ref, &[u8])>
-    ensures { option_map ref_behind result ≡ reference_at bytes.now }
+fn any_reference<'a>(bytes: &'a [u8], cursor: &mut Cursor<'a>) -> Result<Tree, Stop>
+    ensures { Gives result cursor.new (token_taken cursor.old.tokens (reference_at bytes.now)) }
 {
-    let (inside, rest) = split_once(bytes, b']')?;
-    Some((read_ref(inside)?, rest))
+    let Some((inside, rest)) = split_once(bytes, b']') else {
+        return Err(Stop::Unspelled);
+    };
+    let Some(reference) = read_ref(inside) else {
+        return Err(Stop::Unspelled);
+    };
+    cursor.past(rest)?;
+    Ok(Tree::Ref(reference))
 }
 
-/// A reference without a sheet to a cell, or to the cells between two, and what stands behind its closing
-/// bracket. None for any other text.
-fn plain_reference(bytes: &[u8]) -> Option<(Ref, &[u8])>
-    ensures { IfSome result (λ found. reference_at bytes.now ≡ Some (ref_behind found)) }
+/// The corners of a reference without a sheet to a cell, or to the cells between two, and what stands
+/// behind its closing bracket. None for any other text.
+fn plain_corners(bytes: &[u8]) -> Option<(Corners, &[u8])>
+    ensures read { IfSome result (λ found. reference_at bytes.now
+        ≡ Some (t.Ref (reference_of found.0), found.1.now)) }
+    ensures inside { IfSome result (λ found. AreCorners found.0) }
 {
     let (first, rest) = corner_in_front(behind_byte(bytes, b'.')?)?;
     if let Some(rest) = behind_byte(rest, b']') {
-        return Some((cell_reference(first), rest));
+        return Some((Corners::One(first), rest));
     }
     let rest = behind_byte(behind_byte(rest, b':')?, b'.')?;
     let (last, rest) = corner_in_front(rest)?;
-    Some((corners_reference(first, last), behind_byte(rest, b']')?))
+    Some((Corners::Two(first, last), behind_byte(rest, b']')?))
 }
 
 /// What stands behind a byte that is next.
@@ -88,6 +88,23 @@ pub(crate) struct End {
 pub(crate) struct Corner {
     pub col: End,
     pub row: End,
+}
+
+/// One corner, or two in any order.
+#[derive(Clone, Copy)]
+pub(crate) enum Corners {
+    One(Corner),
+    Two(Corner, Corner),
+}
+
+fn reference_of(corners: Corners) -> Ref
+    requires { AreCorners corners }
+    ensures { result ≡ reference_of corners }
+{
+    match corners {
+        Corners::One(corner) => cell_reference(corner),
+        Corners::Two(first, last) => corners_reference(first, last),
+    }
 }
 
 fn cell_reference(corner: Corner) -> Ref
@@ -150,6 +167,7 @@ fn in_order(first: End, last: End) -> (End, End)
 }
 
 /// The corner in front, and what stands behind it. None where there is no corner in the sheet.
+#[inline(always)]
 fn corner_in_front(bytes: &[u8]) -> Option<(Corner, &[u8])>
     ensures spelled { IfSome result (λ found. IsInFront bytes.now found.0 found.1.now) }
     ensures inside { IfSome result (λ found. IsCorner found.0) }
@@ -204,7 +222,7 @@ fn read_letters(bytes: &[u8]) -> (usize, u32)
         if !byte.is_ascii_alphabetic() {
             return (count, number);
         }
-        number = (26 * number + u32::from(byte.to_ascii_uppercase() - b'@')).min(FAR);
+        number = (26 * number + u32::from(*byte % 32)).min(FAR);
     }
     (bytes.len(), number)
 }

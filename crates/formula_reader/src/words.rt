@@ -47,7 +47,8 @@ pub(crate) fn capitals(alloc: Global, word: &[u8]) -> Result<Text, NoMemory>
     requires { IsUtf8 word.now }
     ensures { IfOk result (λ name. name ≡ in_capitals word.now) }
 {
-    let mut name = String::from_str(alloc, str::from_utf8(word).unwrap())?;
+    let word = unsafe { str::from_utf8_unchecked(word) };
+    let mut name = String::from_str(alloc, word)?;
     name.make_ascii_uppercase();
     Ok(Text::of(name))
 }
