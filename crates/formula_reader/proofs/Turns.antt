@@ -1,21 +1,19 @@
 -- One turn of each loop: over the operators behind an operand, over prefix operators, and over the parameters behind
 -- the first.
 use Rattle.formula_reader.specs.declared.operators.Operator.TheVariants as o
-use Rattle.std.proofs.Common.{◌≡◌, ◌≤◌, ◌<◌, ◌-◌, ℕ, zero, suc, Bool, true, false, cond, nat_le, List, Option, Some, None, refl, sym, ap, ◌∙◌, subst, arith, [], ◌∷◌, ◌++◌}
-use Rattle.std.specs.Prelude.{◌==◌, option_map, Result, Ok, Err}
-use Rattle.formula_reader.specs.declared.cursor.Cursor.{Cursor}
-use Rattle.formula_reader.specs.declared.cursor.Stop.{Stop}
+use Rattle.std.proofs.Common.{◌≡◌, ◌≤◌, ◌<◌, ◌-◌, ℕ, zero, suc, Bool, true, false, cond, nat_le, List, Option, Some, None, refl, sym, ap, ◌∙◌, arith, [], ◌∷◌, ◌++◌}
+use Rattle.std.specs.Prelude.{◌==◌, option_map}
 use Rattle.std.proofs.lemmas.Bool.{cond-false, cond-true, eqb-false, eqb-true, leb-true, ne_eqb}
 use Rattle.calc_model.specs.Grammar.{op_level}
 use Rattle.calc_model.proofs.GrammarLevels.{level_some}
 use Rattle.calc_model.specs.declared.tree.Tree.{Tree}
 use Rattle.formula_reader.specs.declared.operators.Operator.{Operator}
-use Rattle.formula_reader.specs.Unread.{◌>>=◌, Fails, Gives, Unread, unread_of, past, repeat, Read, skip, next_is, token_at, some_taken, taken_if}
+use Rattle.formula_reader.specs.Unread.{◌>>=◌, Unread, past, repeat, Read, skip, next_is, token_at, some_taken, taken_if}
 use Rattle.formula_reader.specs.Operators.{level_of, operator_at, operator_taken, up_to}
 use Rattle.formula_reader.specs.Operands.{Inside, attached, attached_by, infix_read, more_made, operands_at, operands_below, operator_behind, operators_behind, prefixed_at, behind_sign, prefixed_within, primary_at, arg_behind, args_at, more_args, pushed}
 use Rattle.formula_reader.specs.declared.signs.Sign.{Sign}
 use Rattle.formula_reader.specs.Signs.{sign_at, sign_read, sign_taken, signed, signed_by, signs_read}
-use Rattle.formula_reader.proofs.Steps.{fails_along, repeat_done, taken_some}
+use Rattle.formula_reader.proofs.Steps.{taken_some}
 
 module _ (nested : Inside) where
   -- what is read with tighter operands than a level below the bound
@@ -65,28 +63,6 @@ module _ (nested : Inside) where
   operands_is level unread =
       bounded (suc level) level unread (omega arith)
       ∙ ap (λ step. prefixed_at nested unread >>= (λ first. repeat step first.1.tokens first.0 first.1)) (operator_same level)
-
-  -- where no operator is next, an operand is what is read, and else the operators behind it go on
-  no_operators : (level n : ℕ) (tree : Tree) (unread : Unread) → operator_taken level unread ≡ Some (None, unread) → repeat (operator_behind (operands_at nested) level) n tree unread ≡ Some (tree, unread)
-  unfolding operator_behind
-  no_operators level n tree unread e = repeat_done (operator_behind (operands_at nested) level) n tree unread (ap (λ o. o >>= attached_by (operands_at nested) tree) e)
-
-  module _ (level : ℕ) (start : Unread) where
-    pub operands_fail : (stop : Stop) → Fails stop (prefixed_at nested start) → Fails stop (operands_at nested level start)
-    operands_fail stop read =
-        fails_along stop (prefixed_at nested start) (operands_at nested level start)
-        (λ none. operands_is level start ∙ ap (λ o. o >>= operators_behind (operands_at nested) level) none) read
-
-    pub operands_end : (result : Result Tree Stop) (left : Cursor) → operator_taken level (unread_of left) ≡ Some (None, unread_of left) → Gives result left (prefixed_at nested start) → Gives result left (operands_at nested level start)
-    operands_end (Ok tree) left e read =
-        operands_is level start
-        ∙ ap (λ o. o >>= operators_behind (operands_at nested) level) read
-        ∙ no_operators level (unread_of left).tokens tree (unread_of left) e
-    operands_end (Err stop) left e read = operands_fail stop read
-
-    pub operands_on : (tree : Tree) (after : Unread) (result : Result Tree Stop) (left : Cursor) → prefixed_at nested start ≡ Some (tree, after) → Gives result left (operators_behind (operands_at nested) level (tree, after)) → Gives result left (operands_at nested level start)
-    operands_on tree after result left read given =
-        subst (Gives result left) (sym (operands_is level start ∙ ap (λ o. o >>= operators_behind (operands_at nested) level) read)) given
 
 pub no_some : {A : Type 0} (o : Option A) → ((x : A) → o ≡ Some x → ⊥) → o ≡ None
 no_some None h = refl

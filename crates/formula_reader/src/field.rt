@@ -46,7 +46,6 @@ fn begins_formula(text: &[u8]) -> bool
 }
 
 /// What a cell holds whose field begins as a formula does.
-#[inline(never)]
 fn read_begun(alloc: Global, text: &[u8]) -> Result<Content, NoMemory>
     requires { IsUtf8 text.now }
     ensures { IfOk result (λ content. content ≡ formula_or_raw (formula_of text.now) text.now) }

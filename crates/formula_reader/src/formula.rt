@@ -34,11 +34,12 @@ fn read_comparison(alloc: Global, bytes: &[u8]) -> Result<Tree, Stop>
         bytes: skip(bytes),
         tokens: MOST_TOKENS,
     };
-    let read = operands(alloc, MOST_OPEN, COMPARISON, &mut cursor);
-    if read.is_ok() && !cursor.bytes.is_empty() {
-        return Err(Stop::Unspelled);
+    let tree = operands(alloc, MOST_OPEN, COMPARISON, &mut cursor)?;
+    if cursor.bytes.is_empty() {
+        Ok(tree)
+    } else {
+        Err(Stop::Unspelled)
     }
-    read
 }
 
 /// What stands behind a formula's front: `=`, `==`, `of:=` or `of:==`.

@@ -1,10 +1,9 @@
-ghost use Rattle.formula_reader.specs.Operands.{args_at, attached, comparison_of, inside_of, operands_at, operators_behind, prefixed_at, primary_at, primary_by, start_of, word_at};
+ghost use Rattle.formula_reader.specs.Operands.{args_at, attached, comparison_of, inside_of, operands_at, prefixed_at, primary_at, start_of, word_at};
 ghost use Rattle.formula_reader.specs.Unread.{Gives, unread_of};
-ghost use Rattle.formula_reader.specs.declared.operands.Start.TheVariants.{Parenthesis};
 ghost use Rattle.std.specs.Prelude.{IfOk, [], ◌∷◌, ◌≡◌};
 
 use crate::cursor::{Cursor, Stop};
-use crate::operators::{Operator, infix_level, is_operator_next, take_operator};
+use crate::operators::{Operator, infix_level, take_operator};
 use crate::signs::{sign_in_front, signed, take_signs};
 use crate::tokens::operand;
 use crate::words::{capitals, name, split_word};
@@ -43,26 +42,7 @@ pub(crate) fn operands(
 ) -> Result<Tree, Stop>
     ensures { Gives result cursor.new (operands_at (inside_of depth) level (unread_of cursor.old)) }
 {
-    let first = prefixed(alloc, depth, cursor);
-    if !is_operator_next(level, cursor) {
-        return first;
-    }
-    operators_behind(alloc, depth, level, first?, cursor)
-}
-
-/// A tree with the operators up to the level behind it.
-#[cycle(reading)]
-fn operators_behind(
-    alloc: Global,
-    depth: u8,
-    level: u8,
-    first: Tree,
-    cursor: &mut Cursor<'_>,
-) -> Result<Tree, Stop>
-    ensures { Gives result cursor.new
-        (operators_behind (operands_at (inside_of depth)) level (first, unread_of cursor.old)) }
-{
-    let mut tree = first;
+    let mut tree = prefixed(alloc, depth, cursor)?;
     for _ in 0..cursor.tokens {
         match take_operator(level, cursor)? {
             None => return Ok(tree),
@@ -137,33 +117,25 @@ fn start_of(bytes: &[u8]) -> Start
 }
 
 #[cycle(reading)]
+#[inline(always)]
 #[tactic(auto, unfolding(crate::specs::Operands::primary_at))]
 fn primary(alloc: Global, depth: u8, cursor: &mut Cursor<'_>) -> Result<Tree, Stop>
     ensures { Gives result cursor.new (primary_at (inside_of depth) (unread_of cursor.old)) }
 {
     match start_of(cursor.bytes) {
-        Start::Parenthesis => parenthesis(alloc, depth, cursor),
+        Start::Parenthesis => {
+            cursor.token(b'(')?;
+            let tree = comparison(alloc, depth, cursor)?;
+            cursor.token(b')')?;
+            Ok(Tree::Paren(Boxed::new(alloc, tree)?))
+        }
         Start::Word => word(alloc, depth, cursor),
         Start::Operand => operand(alloc, cursor),
     }
 }
 
-/// A comparison in parentheses.
-#[cycle(reading)]
-#[inline(never)]
-fn parenthesis(alloc: Global, depth: u8, cursor: &mut Cursor<'_>) -> Result<Tree, Stop>
-    ensures { Gives result cursor.new
-        (primary_by (inside_of depth) Parenthesis (unread_of cursor.old)) }
-{
-    cursor.token(b'(')?;
-    let tree = comparison(alloc, depth, cursor)?;
-    cursor.token(b')')?;
-    Ok(Tree::Paren(Boxed::new(alloc, tree)?))
-}
-
 /// A word with a parenthesis behind it is a call, and another one a name.
 #[cycle(reading)]
-#[inline(never)]
 #[tactic(auto, unfolding(crate::specs::Operands::word_behind))]
 fn word(alloc: Global, depth: u8, cursor: &mut Cursor<'_>) -> Result<Tree, Stop>
     ensures { Gives result cursor.new (word_at (inside_of depth) (unread_of cursor.old)) }

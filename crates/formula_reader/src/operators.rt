@@ -1,7 +1,7 @@
 ghost use Rattle.calc_model.specs.Grammar.{op_level};
 ghost use Rattle.formula_reader.specs.Operators.{greater_at, less_at, level_of, operator_at, operator_taken, single_operator};
 ghost use Rattle.formula_reader.specs.Unread.{Gives, unread_of};
-ghost use Rattle.std.specs.Prelude.{IfOk, IfSome, false, option_map, ◌<◌, ◌≡◌, ◌≤◌};
+ghost use Rattle.std.specs.Prelude.{IfOk, IfSome, option_map, ◌<◌, ◌≡◌, ◌≤◌};
 
 use crate::cursor::{Cursor, Stop};
 use calc_model::Op;
@@ -25,18 +25,6 @@ pub(crate) fn take_operator(level: u8, cursor: &mut Cursor<'_>) -> Result<Option
             Ok(Some(operator))
         }
         _ => Ok(None),
-    }
-}
-
-/// Whether an operator is in front whose level is this or tighter.
-#[tactic(auto, unfolding(crate::specs::Operators::operator_taken))]
-pub(crate) fn is_operator_next(level: u8, cursor: &Cursor<'_>) -> bool
-    ensures { result ≡ false → operator_taken level (unread_of cursor.now)
-        ≡ Some (None, unread_of cursor.now) }
-{
-    match operator_in_front(cursor.bytes) {
-        Some((operator, _)) => level_of(operator) <= level,
-        None => false,
     }
 }
 

@@ -21,7 +21,6 @@ use calc_model::Tree;
 const FAR: u32 = 100_000_000;
 
 /// A reference, behind its bracket.
-#[inline(never)]
 pub(crate) fn reference<'a>(bytes: &'a [u8], cursor: &mut Cursor<'a>) -> Result<Tree, Stop>
     ensures { Gives result cursor.new (token_taken cursor.old.tokens (reference_at bytes.now)) }
 {
