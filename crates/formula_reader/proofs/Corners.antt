@@ -145,7 +145,7 @@ cells_by first last a b h k =
 pub cell_found : (bytes behind rest left : List ℕ) (corner : Corner) → bytes ≡ 46 ∷ behind → IsInFront behind corner rest → rest ≡ 93 ∷ left → reference_at bytes ≡ Some (t.Ref (cell_reference corner), left)
 cell_found bytes behind rest left corner point front closing =
     let spelled : spelled_reference (46 ∷ front.text) ≡ Some (cell_reference corner) =
-        cond-false (list_any is_colon front.text) _ _ front.colonless ∙ cell_by front.text corner front.spelled in
+    cond-false (list_any is_colon front.text) _ _ front.colonless ∙ cell_by front.text corner front.spelled in
     ap reference_at (point ∙ ap (λ x. 46 ∷ x) (sym front.joined ∙ ap (λ x. front.text ++ x) closing))
     ∙ reference_in_front (46 ∷ front.text) left (cell_reference corner) spelled
 
@@ -154,17 +154,17 @@ cells_found bytes b c d e rest left first last point front colon second back clo
     let text = front.text ++ 58 ∷ (46 ∷ back.text) in
     let cut = cut_at_first is_colon 58 front.text (46 ∷ back.text) refl front.colonless in
     let both : two_ends None front.text back.text ≡ Some (corners_reference first last) =
-        ap (λ x. option_or x (option_or (two_columns None front.text back.text) (two_rows None front.text back.text))) (cells_by front.text back.text first last front.spelled back.spelled) in
+    ap (λ x. option_or x (option_or (two_columns None front.text back.text) (two_rows None front.text back.text))) (cells_by front.text back.text first last front.spelled back.spelled) in
     let spelled : spelled_reference (46 ∷ text) ≡ Some (corners_reference first last) =
-        cond-true (list_any is_colon text) _ _ cut.has
-        ∙ ap (λ x. option_and_then (two_ends None x) (after_point (after_first is_colon text))) cut.before
-        ∙ ap (λ x. option_and_then (two_ends None front.text) (after_point x)) cut.after
-        ∙ both in
+    cond-true (list_any is_colon text) _ _ cut.has
+    ∙ ap (λ x. option_and_then (two_ends None x) (after_point (after_first is_colon text))) cut.before
+    ∙ ap (λ x. option_and_then (two_ends None front.text) (after_point x)) cut.after
+    ∙ both in
     let joined : 46 ∷ (text ++ 93 ∷ left) ≡ bytes =
-        ap (λ x. 46 ∷ x) (append_assoc front.text (58 ∷ (46 ∷ back.text)) (93 ∷ left)
-        ∙ ap (λ x. front.text ++ 58 ∷ (46 ∷ x)) (ap (λ x. back.text ++ x) (sym closing) ∙ back.joined)
-        ∙ ap (λ x. front.text ++ 58 ∷ x) (sym second)
-        ∙ ap (λ x. front.text ++ x) (sym colon)
-        ∙ front.joined)
-        ∙ sym point in
+    ap (λ x. 46 ∷ x) (append_assoc front.text (58 ∷ (46 ∷ back.text)) (93 ∷ left)
+    ∙ ap (λ x. front.text ++ 58 ∷ (46 ∷ x)) (ap (λ x. back.text ++ x) (sym closing) ∙ back.joined)
+    ∙ ap (λ x. front.text ++ 58 ∷ x) (sym second)
+    ∙ ap (λ x. front.text ++ x) (sym colon)
+    ∙ front.joined)
+    ∙ sym point in
     ap reference_at (sym joined) ∙ reference_in_front (46 ∷ text) left (corners_reference first last) spelled

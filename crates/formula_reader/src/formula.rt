@@ -36,7 +36,7 @@ fn read_comparison(alloc: Global, bytes: &[u8]) -> Result<Tree, Stop>
     };
     let tree = operands(alloc, MOST_OPEN, COMPARISON, &mut cursor)?;
     if cursor.bytes.is_empty() {
-        Ok(tree)
+        Ok(tree.into_inner())
     } else {
         Err(Stop::Unspelled)
     }

@@ -16,27 +16,37 @@ use crate::cursor::{Cursor, Stop};
 use byte_cuts::split_once;
 use calc_addr::{Area, LAST_COL, LAST_ROW, Marks, Ref, Span, read_ref};
 use calc_model::Tree;
+use sqlite_items::Boxed;
+use std::alloc::Global;
 
 /// Coordinates of this size and more aren't told apart while they are read.
 const FAR: u32 = 100_000_000;
 
 /// A reference, behind its bracket.
-pub(crate) fn reference<'a>(bytes: &'a [u8], cursor: &mut Cursor<'a>) -> Result<Tree, Stop>
+pub(crate) fn reference<'a>(
+    alloc: Global,
+    bytes: &'a [u8],
+    cursor: &mut Cursor<'a>,
+) -> Result<Boxed<Tree>, Stop>
     ensures { Gives result cursor.new (token_taken cursor.old.tokens (reference_at bytes.now)) }
 {
     match plain_corners(bytes) {
         Some((corners, rest)) => {
             cursor.past(rest)?;
-            Ok(Tree::Ref(reference_of(corners)))
+            Ok(Boxed::new(alloc, Tree::Ref(reference_of(corners)))?)
         }
-        None => any_reference(bytes, cursor),
+        None => any_reference(alloc, bytes, cursor),
     }
 }
 
 /// The same, by its closing bracket.
 #[cold]
 #[inline(never)]
-fn any_reference<'a>(bytes: &'a [u8], cursor: &mut Cursor<'a>) -> Result<Tree, Stop>
+fn any_reference<'a>(
+    alloc: Global,
+    bytes: &'a [u8],
+    cursor: &mut Cursor<'a>,
+) -> Result<Boxed<Tree>, Stop>
     ensures { Gives result cursor.new (token_taken cursor.old.tokens (reference_at bytes.now)) }
 {
     let Some((inside, rest)) = split_once(bytes, b']') else {
@@ -46,7 +56,7 @@ fn any_reference<'a>(bytes: &'a [u8], cursor: &mut Cursor<'a>) -> Result<Tree, S
         return Err(Stop::Unspelled);
     };
     cursor.past(rest)?;
-    Ok(Tree::Ref(reference))
+    Ok(Boxed::new(alloc, Tree::Ref(reference))?)
 }
 
 /// The corners of a reference without a sheet to a cell, or to the cells between two, and what stands

@@ -11,6 +11,7 @@ use crate::constant::to_text;
 use crate::cursor::Stop;
 use calc_addr::NoMemory;
 use calc_model::{Text, Tree, is_in_identifier, is_name};
+use sqlite_items::Boxed;
 use std::alloc::Global;
 use std::str;
 
@@ -33,13 +34,13 @@ fn word_len(bytes: &[u8]) -> usize
 }
 
 /// A name by its word.
-pub(crate) fn name(alloc: Global, word: &[u8]) -> Result<Tree, Stop>
+pub(crate) fn name(alloc: Global, word: &[u8]) -> Result<Boxed<Tree>, Stop>
     ensures { Makes (λ tree. tree) result (name_of word.now) }
 {
     if !is_name(word) {
         return Err(Stop::Unspelled);
     }
-    Ok(Tree::Name(to_text(alloc, word)?))
+    Ok(Boxed::new(alloc, Tree::Name(to_text(alloc, word)?))?)
 }
 
 /// The word in capitals of ASCII.

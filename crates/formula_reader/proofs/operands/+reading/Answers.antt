@@ -115,7 +115,7 @@ arguments-loop-preserved t c =
     let last = unread_of c.comparison-in-loop.new.cursor in
     let made = c.loop.args ++ c.in_ok-comparison.field-0 ∷ [] in
     let less : 30 - (c.loop.counter + 1) ≡ 30 - c.loop.counter - 1 = omega arith in
-    ap (λ args. repeat (arg_behind nested) (30 - (c.loop.counter + 1)) args last) c.in_ok-push.ensures.ok
+    ap (λ args. repeat (arg_behind nested) (30 - (c.loop.counter + 1)) args last) (c.in_ok-push.ensures.ok ∙ ap (λ x. c.loop.args ++ x ∷ []) c.into_inner.ensures)
     ∙ ap (λ k. repeat (arg_behind nested) k made last) less
     ∙ sym (repeat_goes (arg_behind nested) (30 - c.loop.counter) c.loop.args made u last (omega arith)
     (arg_token nested c.loop.args u (Some after) (sym c.next_is-in-loop.ensures ∙ c.if-not-next_is.false) c.in_ok-token.ensures ∙ ap (λ o. o >>= pushed nested c.loop.args) c.in_ok-comparison.ensures))
