@@ -51,7 +51,7 @@ fn read_begun(alloc: Global, text: &[u8]) -> Result<Content, NoMemory>
     ensures { IfOk result (λ content. content ≡ formula_or_raw (formula_of text.now) text.now) }
 {
     match read_formula(alloc, text) {
-        Ok(tree) => Ok(Content::Formula(Formula::of(tree))),
+        Ok(tree) => Ok(Content::Formula(Formula::of(tree.into_inner()))),
         Err(Stop::Unspelled) => Ok(Content::Raw(to_text(alloc, text)?)),
         Err(Stop::NoMemory) => Err(AllocError),
     }

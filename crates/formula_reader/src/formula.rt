@@ -5,6 +5,7 @@ ghost use Rattle.std.specs.Prelude.{option_map, ◌≡◌};
 use crate::cursor::{Cursor, Stop, skip};
 use crate::operands::{COMPARISON, operands};
 use calc_model::{MOST_FORMULA_BYTES, MOST_OPEN, MOST_TOKENS, Tree};
+use sqlite_items::Boxed;
 use std::alloc::Global;
 
 /// The formula that a text spells: the front `=`, `==`, `of:=` or `of:==`, and a
@@ -14,7 +15,7 @@ use std::alloc::Global;
 /// at one point or 30 parameters of a call. Linear in the text; the stack grows with open parentheses
 /// alone.
 #[tactic(auto, unfolding(crate::specs::Reading::formula_of))]
-pub(crate) fn read_formula(alloc: Global, text: &[u8]) -> Result<Tree, Stop>
+pub(crate) fn read_formula(alloc: Global, text: &[u8]) -> Result<Boxed<Tree>, Stop>
     ensures { Makes (λ tree. tree) result (formula_of text.now) }
 {
     if text.len() > MOST_FORMULA_BYTES {
@@ -27,7 +28,7 @@ pub(crate) fn read_formula(alloc: Global, text: &[u8]) -> Result<Tree, Stop>
 }
 
 /// A comparison that is all of these bytes.
-fn read_comparison(alloc: Global, bytes: &[u8]) -> Result<Tree, Stop>
+fn read_comparison(alloc: Global, bytes: &[u8]) -> Result<Boxed<Tree>, Stop>
     ensures { Makes (λ tree. tree) result (comparison_in_limits bytes.now) }
 {
     let mut cursor = Cursor {
@@ -36,7 +37,7 @@ fn read_comparison(alloc: Global, bytes: &[u8]) -> Result<Tree, Stop>
     };
     let tree = operands(alloc, MOST_OPEN, COMPARISON, &mut cursor)?;
     if cursor.bytes.is_empty() {
-        Ok(tree.into_inner())
+        Ok(tree)
     } else {
         Err(Stop::Unspelled)
     }
