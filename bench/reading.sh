@@ -7,10 +7,10 @@
 # the crates that it stands on.
 #
 # The first text has the 300,000 formulas of a generated book, and the second has 200,000 longer ones with nested calls,
-# names, texts, decimals and blanks. Prints a line a text: its bytes in millions, the nanoseconds a formula of calc and
-# of C, the ratio, and, where valgrind is on the path, the instructions a formula of calc and of C by gcc, those of the
-# checksums left out. The least of five runs counts. All programs give checksums of all trees, and the script fails where
-# two differ. It takes some minutes, most of them for proofs from nothing.
+# names, texts, decimals and blanks. Prints a line a text: the nanoseconds a formula of calc and of C, the ratio, and,
+# where valgrind is on the path, the instructions a formula of calc and of C by gcc. The least of five runs counts. All
+# programs give checksums of all trees, and the script fails where two differ. It takes some minutes, most of them for
+# proofs from nothing.
 set -euo pipefail
 
 top="$(cd "$(dirname "$0")/.." && pwd)"
@@ -59,10 +59,11 @@ for compiler in gcc clang "$kit"; do
     gcc -o "$work/c_$(echo "$compiler" | tr / _)" "$work/reading.o"
 done
 
-# The instructions of a program between its two looks at the clock.
+# The instructions a formula of a program's function, by the first 20,000 formulas of a text.
 instructions_of() {
-    command -v valgrind >/dev/null || return 0
-    valgrind --tool=callgrind --callgrind-out-file=/dev/null "$@" 2>&1 | awk '/Collected/ { print $NF }'
+    head -n 20000 "$3" >"$work/few"
+    valgrind --tool=callgrind --callgrind-out-file=/dev/null --toggle-collect="$2" "$1" "$work/few" 2>&1 |
+        awk '/Collected/ { printf "%d", $NF / 20000 }'
 }
 
 cd "$work"
@@ -71,10 +72,20 @@ for _ in 1 2 3 4 5; do
     ./crates/reading/out/reading generated longer | sed 's/^/calc /'
     for program in ./c_*; do "$program" generated longer | sed 's/^/C /'; done
 done >lines
+for text in generated longer; do
+    if command -v valgrind >/dev/null; then
+        echo "$text $(instructions_of crates/reading/out/reading '*contents_of*' "$text")" \
+            "$(instructions_of ./c_gcc read_all "$text")"
+    else
+        echo "$text - -"
+    fi
+done >counts
 
-# A line: whose it is, name, nanoseconds, formulas, checksum.
-printf '%-10s %5s %6s %6s %6s\n' text MB calc C ratio
+# A line of counts: text, instructions of calc and of C. A line of times: whose it is, text, nanoseconds, formulas,
+# checksum.
+printf '%-10s %6s %6s %6s %13s %13s\n' text calc C ratio 'calc (instr.)' 'C (instr.)'
 awk '
+    NR == FNR { instructions[$1] = sprintf("%13s %13s", $2, $3); next }
     { key = $2; nanos = $3 / $4 }
     !(key in results) { results[key] = $4 " " $5; keys[++count] = key }
     results[key] != $4 " " $5 { print "the results of " key " differ"; wrong = 1 }
@@ -84,8 +95,8 @@ awk '
             key = keys[at]
             calc = least["calc", key]
             c = least["C", key]
-            printf "%-10s %6.1f %6.1f %6.2f\n", key, calc, c, calc / c
+            printf "%-10s %6.0f %6.0f %6.2f %s\n", key, calc, c, calc / c, instructions[key]
         }
         exit wrong || count != 2
     }
-' lines
+' counts lines
