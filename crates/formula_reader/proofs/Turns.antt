@@ -120,6 +120,10 @@ module _ (nested : Inside) where
   pub no_sign : (unread after : Unread) → sign_taken unread ≡ Some (None, after) → prefixed_at nested unread ≡ primary_at nested after
   no_sign unread after e = prefixed_by unread (Some (None, after)) e
 
+  pub unsigned : (unread : Unread) → sign_at unread.bytes ≡ None → prefixed_at nested unread ≡ primary_at nested unread
+  unfolding sign_taken
+  unsigned unread e = no_sign unread unread (ap (taken_if unread) e)
+
   pub one_sign : (sign : Sign) (unread after : Unread) → sign_taken unread ≡ Some (Some sign, after) → prefixed_at nested unread ≡ (prefixed_at nested after >>= sign_read sign)
   one_sign sign unread after e = prefixed_by unread (Some (Some sign, after)) e
 

@@ -1,5 +1,6 @@
 pub mod Unread
 pub mod Leaves
+pub mod Corners
 pub mod Operators
 pub mod Signs
 pub mod Operands

@@ -62,6 +62,6 @@ pub(crate) fn to_text(alloc: Global, text: &[u8]) -> Result<Text, NoMemory>
     requires { IsUtf8 text.now }
     ensures { IfOk result (λ copied. copied ≡ text.now) }
 {
-    let text = str::from_utf8(text).unwrap();
+    let text = unsafe { str::from_utf8_unchecked(text) };
     Ok(Text::of(String::from_str(alloc, text)?))
 }

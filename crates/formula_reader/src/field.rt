@@ -5,10 +5,11 @@ ghost use Rattle.std.specs.Prelude.{IfOk, ◌≡◌};
 ghost use Rattle.std.specs.Str.{IsUtf8};
 
 use crate::constant::{over, read_constant, to_text};
+use crate::cursor::Stop;
 use crate::formula::read_formula;
 use calc_addr::NoMemory;
 use calc_model::{Content, Formula, MOST_FIELD_BYTES};
-use std::alloc::Global;
+use std::alloc::{AllocError, Global};
 
 /// What a cell holds whose field is this text. It fails only where memory is refused, and takes none
 /// but for texts and formulas. Linear in the text.
@@ -49,8 +50,9 @@ fn read_begun(alloc: Global, text: &[u8]) -> Result<Content, NoMemory>
     requires { IsUtf8 text.now }
     ensures { IfOk result (λ content. content ≡ formula_or_raw (formula_of text.now) text.now) }
 {
-    match read_formula(alloc, text)? {
-        Some(tree) => Ok(Content::Formula(Formula::of(tree))),
-        None => Ok(Content::Raw(to_text(alloc, text)?)),
+    match read_formula(alloc, text) {
+        Ok(tree) => Ok(Content::Formula(Formula::of(tree.into_inner()))),
+        Err(Stop::Unspelled) => Ok(Content::Raw(to_text(alloc, text)?)),
+        Err(Stop::NoMemory) => Err(AllocError),
     }
 }

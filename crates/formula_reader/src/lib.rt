@@ -9,6 +9,7 @@ mod formula;
 mod laws;
 mod operands;
 mod operators;
+mod references;
 mod signs;
 mod tokens;
 mod words;

@@ -30,7 +30,8 @@ fn take_sign(cursor: &mut Cursor<'_>) -> Result<Option<Sign>, Stop>
     }
 }
 
-fn sign_in_front(bytes: &[u8]) -> Option<(Sign, &[u8])>
+/// The sign at the front, and what stands behind it.
+pub(crate) fn sign_in_front(bytes: &[u8]) -> Option<(Sign, &[u8])>
     ensures { option_map (λ found. (found.0, found.1.now)) result ≡ sign_at bytes.now }
 {
     match bytes {
@@ -52,7 +53,11 @@ pub(crate) fn take_signs(alloc: Global, cursor: &mut Cursor<'_>) -> Result<Vec<S
 }
 
 /// A tree behind signs, of which the last binds it first.
-pub(crate) fn signed(alloc: Global, signs: Vec<Sign>, tree: Tree) -> Result<Tree, NoMemory>
+pub(crate) fn signed(
+    alloc: Global,
+    signs: Vec<Sign>,
+    tree: Boxed<Tree>,
+) -> Result<Boxed<Tree>, NoMemory>
     ensures { IfOk result (λ made. made ≡ signed signs.items tree) }
 {
     let mut signs = signs;
@@ -63,12 +68,11 @@ pub(crate) fn signed(alloc: Global, signs: Vec<Sign>, tree: Tree) -> Result<Tree
     Ok(made)
 }
 
-fn signed_by(alloc: Global, sign: Sign, tree: Tree) -> Result<Tree, NoMemory>
+fn signed_by(alloc: Global, sign: Sign, tree: Boxed<Tree>) -> Result<Boxed<Tree>, NoMemory>
     ensures { IfOk result (λ made. made ≡ signed_by sign tree) }
 {
-    let tree = Boxed::new(alloc, tree)?;
     match sign {
-        Sign::Plus => Ok(Tree::Plus(tree)),
-        Sign::Minus => Ok(Tree::Minus(tree)),
+        Sign::Plus => Boxed::new(alloc, Tree::Plus(tree)),
+        Sign::Minus => Boxed::new(alloc, Tree::Minus(tree)),
     }
 }

@@ -1,17 +1,18 @@
 ghost use Rattle.calc_model.specs.Field.{error_constants};
 ghost use Rattle.calc_model.specs.ValueTexts.{fault_text};
 ghost use Rattle.calc_model.specs.declared.fault.Fault.{Fault};
-ghost use Rattle.formula_reader.specs.Leaves.{behind_quote, error_at, number_at, operand_at, reference_at, string_at, text_behind, token_by, token_taken, unquoted};
+ghost use Rattle.formula_reader.specs.Leaves.{behind_quote, error_at, number_at, operand_at, string_at, text_behind, token_by, token_taken, unquoted};
 ghost use Rattle.formula_reader.specs.Unread.{Gives, Makes, unread_of};
 ghost use Rattle.std.specs.List.{find, starts_with};
 ghost use Rattle.std.specs.Prelude.{false, length, nat_eq, option_map, ◌≡◌, ◌≤◌};
 
 use crate::constant::ERROR_CONSTANTS;
 use crate::cursor::{Cursor, Stop};
+use crate::references::reference;
 use byte_cuts::split_once;
-use calc_addr::read_ref;
 use calc_model::{Fault, Text, Tree};
 use calc_num::{Num, Reading, unsigned_len};
+use sqlite_items::Boxed;
 use std::alloc::Global;
 
 /// The byte before and behind a text, which is doubled inside it.
@@ -19,27 +20,27 @@ const QUOTE: u8 = b'"';
 
 /// Takes an operand of one token: a number, a text in quotes, a reference in brackets, or an error
 /// constant. Linear in the token.
-pub(crate) fn operand(alloc: Global, cursor: &mut Cursor<'_>) -> Result<Tree, Stop>
+pub(crate) fn operand(alloc: Global, cursor: &mut Cursor<'_>) -> Result<Boxed<Tree>, Stop>
     ensures { Gives result cursor.new (token_by operand_at (unread_of cursor.old)) }
 {
     match cursor.bytes {
         [QUOTE, rest @ ..] => string(alloc, rest, cursor),
-        [b'[', rest @ ..] => reference(rest, cursor),
-        [b'#', ..] => error_constant(cursor),
-        [b'0'..=b'9' | b'.', ..] => number(cursor),
+        [b'[', rest @ ..] => reference(alloc, rest, cursor),
+        [b'#', ..] => error_constant(alloc, cursor),
+        [b'0'..=b'9' | b'.', ..] => number(alloc, cursor),
         _ => Err(Stop::Unspelled),
     }
 }
 
 /// A number, which is the error `#OVER!` where it is too large.
-fn number(cursor: &mut Cursor<'_>) -> Result<Tree, Stop>
+fn number(alloc: Global, cursor: &mut Cursor<'_>) -> Result<Boxed<Tree>, Stop>
     ensures { Gives result cursor.new (token_by number_at (unread_of cursor.old)) }
 {
     let (number, rest) = cursor.bytes.split_at(unsigned_len(cursor.bytes));
     cursor.past(rest)?;
     match Num::read(number) {
-        Reading::Number(number) => Ok(Tree::Number(number)),
-        Reading::TooLarge => Ok(Tree::Bad(Fault::Over)),
+        Reading::Number(number) => Ok(Boxed::new(alloc, Tree::Number(number))?),
+        Reading::TooLarge => Ok(Boxed::new(alloc, Tree::Bad(Fault::Over))?),
         Reading::NotNumber => Err(Stop::Unspelled),
     }
 }
@@ -47,13 +48,13 @@ fn number(cursor: &mut Cursor<'_>) -> Result<Tree, Stop>
 /// A text in quotes, behind its first quote.
 #[cold]
 #[inline(never)]
-fn string<'a>(alloc: Global, bytes: &'a [u8], cursor: &mut Cursor<'a>) -> Result<Tree, Stop>
+fn string<'a>(alloc: Global, bytes: &'a [u8], cursor: &mut Cursor<'a>) -> Result<Boxed<Tree>, Stop>
     ensures { Gives result cursor.new (token_taken cursor.old.tokens (string_at bytes.now)) }
 {
     let (text, rest) = unquoted(alloc, bytes)?;
     cursor.past(rest)?;
     match String::from_utf8(text) {
-        Ok(text) => Ok(Tree::Words(Text::of(text))),
+        Ok(text) => Ok(Boxed::new(alloc, Tree::Words(Text::of(text)))?),
         Err(_) => Err(Stop::Unspelled),
     }
 }
@@ -88,30 +89,16 @@ fn behind_quote(bytes: &[u8]) -> Option<&[u8]>
     }
 }
 
-/// A reference, behind its bracket.
-fn reference<'a>(bytes: &'a [u8], cursor: &mut Cursor<'a>) -> Result<Tree, Stop>
-    ensures { Gives result cursor.new (token_taken cursor.old.tokens (reference_at bytes.now)) }
-{
-    let Some((inside, rest)) = split_once(bytes, b']') else {
-        return Err(Stop::Unspelled);
-    };
-    let Some(reference) = read_ref(inside) else {
-        return Err(Stop::Unspelled);
-    };
-    cursor.past(rest)?;
-    Ok(Tree::Ref(reference))
-}
-
 /// An error constant.
 #[cold]
 #[inline(never)]
-fn error_constant(cursor: &mut Cursor<'_>) -> Result<Tree, Stop>
+fn error_constant(alloc: Global, cursor: &mut Cursor<'_>) -> Result<Boxed<Tree>, Stop>
     ensures { Gives result cursor.new (token_by error_at (unread_of cursor.old)) }
 {
     match error_in_front(cursor.bytes) {
         Some(fault) => {
             cursor.past(&cursor.bytes[fault.text().len()..])?;
-            Ok(Tree::Bad(fault))
+            Ok(Boxed::new(alloc, Tree::Bad(fault))?)
         }
         None => Err(Stop::Unspelled),
     }

@@ -11,6 +11,7 @@ use crate::constant::to_text;
 use crate::cursor::Stop;
 use calc_addr::NoMemory;
 use calc_model::{Text, Tree, is_in_identifier, is_name};
+use sqlite_items::Boxed;
 use std::alloc::Global;
 use std::str;
 
@@ -33,13 +34,13 @@ fn word_len(bytes: &[u8]) -> usize
 }
 
 /// A name by its word.
-pub(crate) fn name(alloc: Global, word: &[u8]) -> Result<Tree, Stop>
+pub(crate) fn name(alloc: Global, word: &[u8]) -> Result<Boxed<Tree>, Stop>
     ensures { Makes (λ tree. tree) result (name_of word.now) }
 {
     if !is_name(word) {
         return Err(Stop::Unspelled);
     }
-    Ok(Tree::Name(to_text(alloc, word)?))
+    Ok(Boxed::new(alloc, Tree::Name(to_text(alloc, word)?))?)
 }
 
 /// The word in capitals of ASCII.
@@ -47,7 +48,8 @@ pub(crate) fn capitals(alloc: Global, word: &[u8]) -> Result<Text, NoMemory>
     requires { IsUtf8 word.now }
     ensures { IfOk result (λ name. name ≡ in_capitals word.now) }
 {
-    let mut name = String::from_str(alloc, str::from_utf8(word).unwrap())?;
+    let word = unsafe { str::from_utf8_unchecked(word) };
+    let mut name = String::from_str(alloc, word)?;
     name.make_ascii_uppercase();
     Ok(Text::of(name))
 }

@@ -1,13 +1,19 @@
 -- The loops of operators and of parameters, and that a call's name is a text.
 use Rattle.formula_reader.proofs.operands.+reading.Goals as goal
-use Rattle.std.proofs.Common.{◌≡◌, ◌-◌, ◌+◌, [], ◌∷◌, ◌++◌, Some, None, sym, ap, ◌∙◌, arith}
+use Rattle.std.proofs.Common.{◌≡◌, ◌-◌, ◌+◌, [], ◌∷◌, ◌++◌, Some, None, sym, ap, ◌∙◌, subst, arith}
+use Rattle.std.specs.Prelude.{option_map}
 use Rattle.std.proofs.lemmas.Result.{err_from_is_err_and}
-use Rattle.formula_reader.specs.Unread.{◌>>=◌, repeat, token_at, unread_of}
+use Rattle.formula_reader.specs.Unread.{◌>>=◌, Gives, repeat, token_at, unread_of}
 use Rattle.formula_reader.specs.Operators.{operator_taken}
 use Rattle.formula_reader.specs.Operands.{arg_behind, args_at, attached, comparison_of, inside_of, more_made, operands_at, operator_behind, operators_behind, prefixed_at, pushed}
 use Rattle.formula_reader.proofs.Identifiers.{identifier_IsUtf8}
-use Rattle.formula_reader.proofs.Turns.{operands_is, arg_stops, arg_token, operator_fails, operator_found, operator_stops}
+use Rattle.formula_reader.proofs.Turns.{operands_is, arg_stops, arg_token, operator_fails, operator_found, operator_stops, unsigned}
 use Rattle.formula_reader.proofs.Steps.{fails_along, repeat_ends, repeat_fails_along, repeat_goes, repeat_stops}
+
+pub prefixed-returns-in-None : goal.prefixed-returns-in-None
+prefixed-returns-in-None t c =
+    let start = unread_of c.args.cursor.now in
+    subst (Gives c.primary.result c.primary.new.cursor) (sym (unsigned (inside_of c.args.depth) start (sym c.sign_in_front.ensures ∙ ap (option_map (λ found. (found.0, found.1.now))) c.in-None.is))) c.primary.ensures
 
 pub operands-returns-in_err-tree : goal.operands-returns-in_err-tree
 operands-returns-in_err-tree t c =
@@ -91,15 +97,15 @@ arguments-returns-in_err-token t c =
     (repeat_fails_along (arg_behind nested) c.in_err-token.field-0.0 (token_at 59 u) (30 - c.loop.counter) c.loop.args u (args_at (inside_of c.args.depth) (unread_of c.args.cursor.now)) (omega arith)
     (arg_token nested c.loop.args u None (sym c.next_is-in-loop.ensures ∙ c.if-not-next_is.false)) c.loop.invariant c.in_err-token.ensures)
 
-pub arguments-returns-in_err-comparison-2 : goal.arguments-returns-in_err-comparison-2
-arguments-returns-in_err-comparison-2 t c =
-    let p = err_from_is_err_and c.from_residual-in_err-comparison-2.result c.from_residual-in_err-comparison-2.ensures.1 in
+pub arguments-returns-in_err-comparison : goal.arguments-returns-in_err-comparison
+arguments-returns-in_err-comparison t c =
+    let p = err_from_is_err_and c.from_residual-in_err-comparison.result c.from_residual-in_err-comparison.ensures.1 in
     let u = unread_of c.loop.cursor in
     let after = unread_of c.token.new.self in
     let nested = comparison_of c.args.depth in
     rw (p.1, p.2)
-    (repeat_fails_along (arg_behind nested) c.in_err-comparison-2.field-0.0 (nested after) (30 - c.loop.counter) c.loop.args u (args_at (inside_of c.args.depth) (unread_of c.args.cursor.now)) (omega arith)
-    (λ none. arg_token nested c.loop.args u (Some after) (sym c.next_is-in-loop.ensures ∙ c.if-not-next_is.false) c.in_ok-token.ensures ∙ ap (λ o. o >>= pushed nested c.loop.args) none) c.loop.invariant c.in_err-comparison-2.ensures)
+    (repeat_fails_along (arg_behind nested) c.in_err-comparison.field-0.0 (nested after) (30 - c.loop.counter) c.loop.args u (args_at (inside_of c.args.depth) (unread_of c.args.cursor.now)) (omega arith)
+    (λ none. arg_token nested c.loop.args u (Some after) (sym c.next_is-in-loop.ensures ∙ c.if-not-next_is.false) c.in_ok-token.ensures ∙ ap (λ o. o >>= pushed nested c.loop.args) none) c.loop.invariant c.in_err-comparison.ensures)
 
 pub arguments-loop-preserved : goal.arguments-loop-preserved
 arguments-loop-preserved t c =
@@ -107,12 +113,12 @@ arguments-loop-preserved t c =
     let u = unread_of c.loop.cursor in
     let after = unread_of c.token.new.self in
     let last = unread_of c.comparison-in-loop.new.cursor in
-    let made = c.loop.args ++ c.in_ok-comparison-2.field-0 ∷ [] in
+    let made = c.loop.args ++ c.in_ok-comparison.field-0 ∷ [] in
     let less : 30 - (c.loop.counter + 1) ≡ 30 - c.loop.counter - 1 = omega arith in
-    ap (λ args. repeat (arg_behind nested) (30 - (c.loop.counter + 1)) args last) c.in_ok-push-2.ensures.ok
+    ap (λ args. repeat (arg_behind nested) (30 - (c.loop.counter + 1)) args last) (c.in_ok-push.ensures.ok ∙ ap (λ x. c.loop.args ++ x ∷ []) c.into_inner.ensures)
     ∙ ap (λ k. repeat (arg_behind nested) k made last) less
     ∙ sym (repeat_goes (arg_behind nested) (30 - c.loop.counter) c.loop.args made u last (omega arith)
-    (arg_token nested c.loop.args u (Some after) (sym c.next_is-in-loop.ensures ∙ c.if-not-next_is.false) c.in_ok-token.ensures ∙ ap (λ o. o >>= pushed nested c.loop.args) c.in_ok-comparison-2.ensures))
+    (arg_token nested c.loop.args u (Some after) (sym c.next_is-in-loop.ensures ∙ c.if-not-next_is.false) c.in_ok-token.ensures ∙ ap (λ o. o >>= pushed nested c.loop.args) c.in_ok-comparison.ensures))
     ∙ c.loop.invariant
 
 pub arguments-returns : goal.arguments-returns

@@ -17,14 +17,17 @@ decreases-attach l = 1024 * l.depth + 2 * level_of l.operator + 5
 abbrev pub decreases-prefixed : goal.decreases-prefixed
 decreases-prefixed l = 1024 * l.depth + 5
 
+abbrev pub decreases-signed_primary : goal.decreases-signed_primary
+decreases-signed_primary l = 1024 * l.depth + 4
+
 abbrev pub decreases-primary : goal.decreases-primary
-decreases-primary l = 1024 * l.depth + 4
+decreases-primary l = 1024 * l.depth + 3
 
 abbrev pub decreases-word : goal.decreases-word
-decreases-word l = 1024 * l.depth + 3
+decreases-word l = 1024 * l.depth + 2
 
 abbrev pub decreases-arguments : goal.decreases-arguments
-decreases-arguments l = 1024 * l.depth + 2
+decreases-arguments l = 1024 * l.depth + 1
 
 abbrev pub invariant-operands-loop : goal.invariant-operands-loop
 invariant-operands-loop l =

@@ -20,6 +20,7 @@ returns-in-Ok c =
     ∙ ap (λ o. o >>= taken n) (cond-true (is_utf8 text) _ _ utf8)
     ∙ ap (option_map (λ (unread : Unread). (t.Words text, unread))) c.in_ok-past.ensures
     ∙ ap (λ words. Some (t.Words words, unread_of c.past.new.self)) (sym same ∙ sym c.of.ensures)
+    ∙ ap (λ tree. Some (tree, unread_of c.past.new.self)) (sym c.in_ok-new-in-Ok.ensures)
 
 pub returns : goal.returns
 returns c =
