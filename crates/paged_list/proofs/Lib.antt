@@ -1,0 +1,6 @@
+mod Drops
+mod Packs
+mod Places
+mod Passed
+mod Edits
+mod Widened
