@@ -4,3 +4,4 @@ mod Places
 mod Passed
 mod Edits
 mod Widened
+mod Moves

@@ -5,6 +5,7 @@
 mod list;
 mod page;
 mod plain;
+mod ranges;
 mod through;
 
 pub use list::PagedList;

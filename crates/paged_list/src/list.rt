@@ -42,6 +42,10 @@ impl<T: Plain> PagedList<T> {
         }
     }
 
+    pub(crate) fn alloc(&self) -> Global {
+        self.alloc
+    }
+
     pub fn len(&self) -> usize
         ensures { result ≡ length self.now.items }
     {
@@ -56,13 +60,14 @@ impl<T: Plain> PagedList<T> {
         &self.pages[at / PAGE].as_slice()[at % PAGE]
     }
 
-    /// Puts an item in the place of another. It takes constant time.
-    pub fn set(&mut self, at: usize, item: T)
+    /// Puts an item in the place of another, which it gives. It takes constant time.
+    pub fn replace(&mut self, at: usize, item: T) -> T
         requires { at < length self.old.items }
+        ensures item { result ≡ slice_index_or self.old.items at result }
         ensures items { self.new.items ≡ slice_set self.old.items at item }
         ensures room { self.new.room ≡ self.old.room }
     {
-        self.pages[at / PAGE].set(at % PAGE, item);
+        self.pages[at / PAGE].replace(at % PAGE, item)
     }
 
     /// Room for n more items.

@@ -108,13 +108,15 @@ impl<T: Plain> Page<T> {
         self.items.reserve(places.saturating_sub(have))
     }
 
-    pub(crate) fn set(&mut self, at: usize, item: T)
+    /// Puts an item in the place of another, which it gives.
+    pub(crate) fn replace(&mut self, at: usize, item: T) -> T
         requires { at < length self.old.items }
+        ensures item { result ≡ slice_index_or self.old.items at result }
         ensures items { self.new.items ≡ slice_set self.old.items at item }
         ensures capacity { self.new.capacity ≡ self.old.capacity }
     {
         let start = self.start;
-        self.items[start + at] = item;
+        replace(&mut self.items[start + at], item)
     }
 
     /// Puts an item in. It is linear in the items.
