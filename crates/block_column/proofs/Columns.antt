@@ -111,7 +111,7 @@ filled-count s = sym (length-filter is_filled s) ∙ filled-items s
 pub counted-items : (t : Table) → IsColumn t → item_count t.stores ≡ count_by is_filled (slots_of t)
 counted-items t c =
     let h = c.table.stores in
-    omega (arith, filled-count (slots_of t), ap length h.numbers, ap length h.words, ap length h.bad, ap length h.raw, ap length h.codes, t.stores.numbers.ok, t.stores.words.ok, t.stores.bad.ok, t.stores.raw.ok, t.stores.codes.ok)
+    omega (arith, filled-count (slots_of t), ap length h.numbers, ap length h.words, ap length h.bad, ap length h.raw, ap length h.codes)
 
 -- what holds in both outcomes
 pub either : {A E P Q R : Type 0} (r : Result A E) → OnOk r P → OnErr r Q → (P → R) → (Q → R) → R

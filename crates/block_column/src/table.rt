@@ -13,6 +13,7 @@ ghost use Rattle.block_column.specs.Tables.{AreBlocks, HasPlaces, HasRow, IsAtRo
 
 use crate::block::{Block, Kind};
 use crate::counts::Counts;
+use crate::more::More;
 use crate::slot::{Slot, SlotRef};
 use crate::stores::Stores;
 use calc_addr::{LAST_ROW, NoMemory};
@@ -246,7 +247,7 @@ impl Table {
             → room_of self.old ≤ room_of self.new + 1) }
         ensures places { (n : ℕ) → HasPlaces (n + PLACES) self.old → HasPlaces n self.new }
     {
-        let more = Stores::of_rows(alloc, rows as usize, slot)?;
+        let more = More::of_rows(alloc, rows as usize, slot)?;
         let low = self.ahead(from);
         let high = self.ahead(to);
         self.stores.make_room(&more)?;
