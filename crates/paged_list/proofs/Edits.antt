@@ -75,7 +75,7 @@ module _ {T : Type 0} where
   full-pages n c ps h m below within = λ k d from to.
       let there : k < length ps = roomy-reach k c ps h.roomy (omega (arith, below, to)) in
       let places : places_for (c - k * 4096) ≤ (get_or ps k d).capacity = roomy-at k c ps d h.roomy there in
-      (omega (arith, packed-at k n ps d h.packed there, within, to), grind (arith, nat_tests, places, below, to))
+      (omega (arith, packed-at k n ps d h.packed there, within, to), omega (arith, places, below, to))
 
   pub has-place : (n c : ℕ) (ps : List (PageItems T)) → ArePages ps n c → n < c → HasPlace ps n
   has-place n c ps h l =
@@ -85,7 +85,7 @@ module _ {T : Type 0} where
         full = full-pages n c ps h (n / 4096) (omega (arith, l)) (omega arith);
         last = λ d.
             let places : places_for (c - n / 4096 * 4096) ≤ (get_or ps (n / 4096) d).capacity = roomy-at (n / 4096) c ps d h.roomy there in
-            grind (arith, nat_tests, places, l, packed-at (n / 4096) n ps d h.packed there);
+            omega (arith, places, l, packed-at (n / 4096) n ps d h.packed there);
       }
 
 -- a slice that is written back whole

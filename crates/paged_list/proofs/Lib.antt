@@ -1,4 +1,3 @@
-mod Drops
 mod Packs
 mod Places
 mod Passed

@@ -1,5 +1,5 @@
 -- Pages of a list: neighbouring items, and how many can be held.
-use Rattle.std.specs.Prelude.{◌≡◌, ℕ, zero, ◌+◌, ◌-◌, ◌*◌, ◌/◌, ◌<◌, ◌≤◌, ◌++◌, min, nat_lt, if◌then◌else◌, List, [], ◌∷◌, length, take, drop, get_or, insert}
+use Rattle.std.specs.Prelude.{◌≡◌, ℕ, zero, ◌+◌, ◌-◌, ◌*◌, ◌/◌, ◌<◌, ◌≤◌, ◌++◌, min, List, [], ◌∷◌, length, take, drop, get_or, insert}
 use Rattle.std.specs.List.{flat_map}
 use Rattle.std.specs.Coded.{Coded, code_by, coded×, coded_list, coded_ℕ}
 use mathlib.Core.Path.{refl}
@@ -22,7 +22,7 @@ Packed n (p ∷ ps) = (length p.items ≡ min 4096 n) × Packed (n - 4096) ps
 
 -- the places of a page, where it and those behind it are to hold c items
 abbrev pub places_for : ℕ → ℕ
-places_for c = if nat_lt 4096 c then 4096 + 64 else c
+places_for c = min c 4096
 
 -- the pages can hold c items
 abbrev pub Roomy : {T : Type 0} → ℕ → List (PageItems T) → Type 0
@@ -49,9 +49,9 @@ pub record KeepsShape {T : Type 0} (old new : List (PageItems T)) : Type 0 where
   pub sizes : (k : ℕ) (d : PageItems T) → length (get_or new k d).items ≡ length (get_or old k d).items
   pub capacities : (k : ℕ) (d : PageItems T) → (get_or old k d).capacity ≤ (get_or new k d).capacity
 
--- the pages from the first on, in front of the end, are full and have free places
+-- the pages from the first on, in front of the end, are full
 abbrev pub AreFull : {T : Type 0} → List (PageItems T) → ℕ → ℕ → Type 0
-AreFull {T} ps first end = (k : ℕ) (d : PageItems T) → first ≤ k → k < end → (length (get_or ps k d).items ≡ 4096) × (4096 + 64 ≤ (get_or ps k d).capacity)
+AreFull {T} ps first end = (k : ℕ) (d : PageItems T) → first ≤ k → k < end → (length (get_or ps k d).items ≡ 4096) × (4096 ≤ (get_or ps k d).capacity)
 
 -- an item put in behind the first ones of a page and those behind it
 abbrev pub put_behind : {T : Type 0} → List (PageItems T) → ℕ → ℕ → T → List T

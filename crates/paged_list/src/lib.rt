@@ -1,5 +1,5 @@
-//! Lists that are kept in pages, so that an item is put in or taken out in the time of a page and of a step a page
-//! behind it.
+//! Lists that are kept in pages, each a ring: a tiered vector. An item is put in or taken out in the time of a page, and of
+//! one step for each page behind it, which passes an item on to the next.
 #![tactic(auto)]
 
 mod list;

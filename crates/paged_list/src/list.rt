@@ -57,7 +57,7 @@ impl<T: Plain> PagedList<T> {
         requires { at < length self.now.items }
         ensures { result.now ≡ slice_index_or self.now.items at result.now }
     {
-        &self.pages[at / PAGE].as_slice()[at % PAGE]
+        self.pages[at / PAGE].get(at % PAGE)
     }
 
     /// Puts an item in the place of another, which it gives. It takes constant time.
@@ -94,7 +94,7 @@ impl<T: Plain> PagedList<T> {
         ensures items { self.new.items ≡ insert self.old.items at item }
         ensures room { self.old.room ≤ self.new.room + 1 }
     {
-        insert_at(self.alloc, &mut self.pages, self.len, at, item);
+        insert_at(&mut self.pages, self.len, at, item);
         self.len += 1;
     }
 
@@ -104,7 +104,7 @@ impl<T: Plain> PagedList<T> {
         ensures items { self.new.items ≡ remove self.old.items at }
         ensures room { self.old.room ≤ self.new.room }
     {
-        remove_at(self.alloc, &mut self.pages, self.len, at);
+        remove_at(&mut self.pages, self.len, at);
         self.len -= 1;
     }
 }

@@ -1,14 +1,12 @@
 ghost use Rattle.std.specs.Prelude.{◌≡◌, ◌∷◌, ◌++◌, ◌*◌, ◌+◌, ◌-◌, ◌<◌, ◌≤◌, ◌/◌, ℕ, length, take, drop, insert, remove, get_or, vec_len, OnOk, OnErr};
 ghost use Rattle.paged_list.specs.Pages.{AreFull, HasPlace, KeepsShape, Packed, PageItems, Roomy, flat, places_for, put_behind};
 
-use crate::page::{PAGE, Page, SLACK};
-use crate::plain::Plain;
+use crate::page::{PAGE, Page};
 use std::alloc::{AllocError, Global};
 
 /// Puts an item in at a place of the first page and passes on the last item of each, up to the end.
 /// The one that is left belongs at a place of the page behind them.
-pub(crate) fn push_through<T: Plain>(
-    alloc: Global,
+pub(crate) fn push_through<T: Drop>(
     pages: &mut [Page<T>],
     first: usize,
     end: usize,
@@ -27,7 +25,7 @@ pub(crate) fn push_through<T: Plain>(
     let mut at = at;
     let mut item = item;
     for k in first..end {
-        item = pages[k].squeeze(alloc, at, item);
+        item = pages[k].squeeze(at, item);
         at = 0;
     }
     (at, item)
@@ -35,8 +33,7 @@ pub(crate) fn push_through<T: Plain>(
 
 /// Takes out the first item of the first page, and the last page's first item of all goes to the page
 /// in front of it.
-pub(crate) fn pull_through<T: Plain>(
-    alloc: Global,
+pub(crate) fn pull_through<T: Drop>(
     pages: &mut [Page<T>],
     first: usize,
     last: usize,
@@ -60,14 +57,13 @@ pub(crate) fn pull_through<T: Plain>(
     let mut k = last;
     while k > first {
         k -= 1;
-        item = pages[k].pull(alloc, item);
+        item = pages[k].pull(item);
     }
     item
 }
 
 /// Puts an item in.
-pub(crate) fn insert_at<T: Plain>(
-    alloc: Global,
+pub(crate) fn insert_at<T: Drop>(
     pages: &mut [Page<T>],
     len: usize,
     at: usize,
@@ -82,12 +78,12 @@ pub(crate) fn insert_at<T: Plain>(
     ensures roomy { (c : ℕ) → Roomy c pages.old → Roomy c pages.new }
 {
     let last = len / PAGE;
-    let (place, item) = push_through(alloc, pages, at / PAGE, last, at % PAGE, item);
+    let (place, item) = push_through(pages, at / PAGE, last, at % PAGE, item);
     pages[last].insert(place, item);
 }
 
 /// Takes an item out.
-pub(crate) fn remove_at<T: Plain>(alloc: Global, pages: &mut [Page<T>], len: usize, at: usize)
+pub(crate) fn remove_at<T: Drop>(pages: &mut [Page<T>], len: usize, at: usize)
     requires at { at < len }
     requires packed { Packed len pages.old }
     requires full { AreFull pages.old 0 ((len - 1) / PAGE) }
@@ -101,13 +97,13 @@ pub(crate) fn remove_at<T: Plain>(alloc: Global, pages: &mut [Page<T>], len: usi
     if page == last {
         pages[page].remove(at % PAGE);
     } else {
-        let item = pull_through(alloc, pages, page + 1, last);
+        let item = pull_through(pages, page + 1, last);
         pages[page].turn(at % PAGE, item);
     }
 }
 
 /// At least so many pages.
-fn add_pages<T: Plain>(
+fn add_pages<T: Drop>(
     alloc: Global,
     pages: &mut Vec<Page<T>>,
     count: usize,
@@ -131,11 +127,11 @@ fn add_pages<T: Plain>(
 fn places_for(items: usize) -> usize
     ensures { result ≡ places_for items }
 {
-    if items > PAGE { PAGE + SLACK } else { items }
+    items.min(PAGE)
 }
 
 /// Makes the pages able to hold so many items.
-fn widen<T: Plain>(pages: &mut [Page<T>], capacity: usize) -> Result<(), AllocError>
+fn widen<T: Drop>(pages: &mut [Page<T>], capacity: usize) -> Result<(), AllocError>
     requires { capacity ≤ length pages.old * PAGE }
     ensures items { flat pages.new ≡ flat pages.old }
     ensures shape { KeepsShape pages.old pages.new }
@@ -150,7 +146,7 @@ fn widen<T: Plain>(pages: &mut [Page<T>], capacity: usize) -> Result<(), AllocEr
 }
 
 /// Pages that can hold so many items.
-pub(crate) fn make_room<T: Plain>(
+pub(crate) fn make_room<T: Drop>(
     alloc: Global,
     pages: &mut Vec<Page<T>>,
     capacity: usize,
