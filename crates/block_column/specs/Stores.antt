@@ -1,5 +1,5 @@
 -- The items of each kind of slot, in the order of their rows.
-use Rattle.std.specs.Prelude.{◌≡◌, ℕ, ℤ, ◌+◌, ◌-◌, ◌≤◌, min, List, ◌++◌, length, take, drop, Option, None, Some, vec_len}
+use Rattle.std.specs.Prelude.{◌≡◌, ℕ, ℤ, ◌+◌, ◌≤◌, min, List, ◌++◌, length, take, drop, Option, None, Some, vec_len}
 use Rattle.std.specs.List.{filter_map}
 use Rattle.calc_model.specs.declared.fault.Fault.{Fault}
 use Rattle.block_column.specs.declared.slot.Slot.{Slot}

@@ -4,12 +4,7 @@ ghost use Rattle.std.specs.Option.{option_to_list};
 use paged_list::{PagedList, Plain};
 
 /// Puts an item or none in the place of the one from `low` to `high`, or of none.
-pub(crate) fn put_one<T: Plain>(
-    store: &mut PagedList<T>,
-    low: usize,
-    high: usize,
-    item: Option<T>,
-)
+pub(crate) fn put_one<T: Plain>(store: &mut PagedList<T>, low: usize, high: usize, item: Option<T>)
     requires order { low ≤ high }
     requires one { high ≤ low + 1 }
     requires within { high ≤ length store.old.items }
@@ -35,12 +30,7 @@ pub(crate) fn put_one<T: Plain>(
 }
 
 /// Puts items in the place of those from `low` to `high`.
-pub(crate) fn put_many<T: Plain>(
-    store: &mut PagedList<T>,
-    low: usize,
-    high: usize,
-    more: Vec<T>,
-)
+pub(crate) fn put_many<T: Plain>(store: &mut PagedList<T>, low: usize, high: usize, more: Vec<T>)
     requires order { low ≤ high }
     requires within { high ≤ length store.old.items }
     requires room { vec_len more ≤ store.old.room }

@@ -1,12 +1,11 @@
 -- An item that is put in or taken out, by its page and its place there.
-use Rattle.std.proofs.Common.{◌≡◌, ℕ, zero, suc, ◌+◌, ◌-◌, ◌*◌, ◌/◌, ◌%◌, ◌<◌, ◌≤◌, min, List, [], ◌∷◌, ◌++◌, take, drop, length, get_or, insert, remove, refl, inl, inr, sym, ap, subst, ◌∙◌, arith, append_assoc}
+use Rattle.std.proofs.Common.{◌≡◌, ℕ, zero, suc, ◌+◌, ◌-◌, ◌*◌, ◌/◌, ◌%◌, ◌<◌, ◌≤◌, min, List, [], ◌∷◌, ◌++◌, take, drop, length, get_or, insert, remove, refl, inl, inr, sym, ap, ◌∙◌, arith, append_assoc}
 use Rattle.std.proofs.Math.ListN.{set}
 use Rattle.std.proofs.lemmas.List.{append-nil, drop_all, take_all}
 use Rattle.std.proofs.lemmas.Bool.{cases_lt}
-use Rattle.std.proofs.lemmas.Bool.Decides.{nat_tests}
 use Rattle.std.proofs.lemmas.List.Edits.{insert-append_left, insert-append_right, remove-append_left, remove-append_right}
 use Rattle.paged_list.specs.Pages.{PageItems, AreFull, ArePages, HasPlace, Packed, Roomy, flat, places_for, put_behind}
-use Rattle.paged_list.proofs.Packs.{flat-at, flat-set, packed-at, packed-front, packed-length, packed-reach, roomy-at}
+use Rattle.paged_list.proofs.Packs.{flat-at, flat-set, packed-at, packed-front, packed-reach, roomy-at}
 
 module _ {T : Type 0} where
   flat-cut : (k : ℕ) (ps : List (PageItems T)) → flat ps ≡ flat (take k ps) ++ flat (drop k ps)

@@ -1,9 +1,8 @@
 -- Items that move within a list.
-use Rattle.std.proofs.Common.{◌≡◌, ℕ, suc, ◌+◌, ◌-◌, ◌<◌, ◌≤◌, List, [], ◌∷◌, append_assoc, ◌++◌, take, drop, length, get_or, replicate, inl, inr, refl, sym, ap, subst, ◌∙◌, arith}
+use Rattle.std.proofs.Common.{◌≡◌, ℕ, suc, ◌+◌, ◌-◌, ◌<◌, ◌≤◌, List, [], ◌∷◌, append_assoc, ◌++◌, take, drop, length, get_or, replicate, inl, inr, sym, ap, ◌∙◌, arith}
 use Rattle.std.proofs.lemmas.List.{same_lists, places, length-take, length-drop, length-append, length-replicate, get_or-drop, get_or-take, get_or-replicate, get_or_append_left, get_or-append_right, set-append_right, set_at, replicate_more, drop_more}
 use Rattle.std.proofs.Math.ListN.{set}
 use Rattle.std.proofs.lemmas.Bool.{cases_lt}
-use Rattle.std.proofs.lemmas.Bool.Decides.{nat_tests}
 
 module _ {T : Type 0} where
   pub moved-down : (low high : ℕ) (xs ys : List T) → low ≤ high → high ≤ length xs → length ys ≡ length xs → ((i : ℕ) (d : T) → i < low → get_or ys i d ≡ get_or xs i d)
@@ -19,19 +18,20 @@ module _ {T : Type 0} where
       same_lists ys (take low xs ++ (replicate count x ++ drop low (take end xs)))
       (omega (arith, len, length-append (take low xs) (replicate count x ++ drop low (take end xs)), length-append (replicate count x) (drop low (take end xs)), length-take low xs, length-replicate count x, length-drop low (take end xs), length-take end xs))
       (λ k d h. elim (cases_lt k low) [
-          inl b ↦ front k d b ∙ sym (get_or_append_left (take low xs) behind d k (omega (arith, b, length-take low xs)) ∙ get_or-take low xs k d b)
-          | inr a ↦ elim (cases_lt k (low + count)) [
-              inl b ↦ gap k d a b ∙ sym (at-place k d a ∙ get_or_append_left (replicate count x) (drop low (take end xs)) d (k - low) (omega (arith, a, b, length-replicate count x)) ∙ get_or-replicate count (k - low) x d (omega (arith, a, b)))
-              | inr b ↦
-                  let place : k - count + count ≡ k = omega (arith, b) in
-                  let source : low + (k - low - count) ≡ k - count = omega (arith, a, b) in
-                  ap (λ n. get_or ys n d) (sym place) ∙ moved (k - count) d (omega (arith, b)) (omega (arith, h, len, within, b))
-                  ∙ sym (at-place k d a ∙ get_or-append_right (replicate count x) (drop low (take end xs)) count (k - low) d (length-replicate count x) (omega (arith, a, b)) ∙ get_or-drop low (take end xs) (k - low - count) d ∙ ap (λ n. get_or (take end xs) n d) source ∙ get_or-take end xs (k - count) d (omega (arith, h, len, within, b)))
-          ]
+        | inl b ↦ front k d b ∙ sym (get_or_append_left (take low xs) behind d k (omega (arith, b, length-take low xs)) ∙ get_or-take low xs k d b)
+        | inr a ↦ elim (cases_lt k (low + count)) [
+          | inl b ↦ gap k d a b ∙ sym (at-place k d a ∙ get_or_append_left (replicate count x) (drop low (take end xs)) d (k - low) (omega (arith, a, b, length-replicate count x)) ∙ get_or-replicate count (k - low) x d (omega (arith, a, b)))
+          | inr b ↦
+              let place : k - count + count ≡ k = omega (arith, b) in
+              let source : low + (k - low - count) ≡ k - count = omega (arith, a, b) in
+              ap (λ n. get_or ys n d) (sym place) ∙ moved (k - count) d (omega (arith, b)) (omega (arith, h, len, within, b))
+              ∙ sym (at-place k d a ∙ get_or-append_right (replicate count x) (drop low (take end xs)) count (k - low) d (length-replicate count x) (omega (arith, a, b)) ∙ get_or-drop low (take end xs) (k - low - count) d ∙ ap (λ n. get_or (take end xs) n d) source ∙ get_or-take end xs (k - count) d (omega (arith, h, len, within, b)))
+        ]
       ])
     where
       behind : List T
       behind = replicate count x ++ drop low (take end xs)
+
       at-place : (k : ℕ) (d : T) → low ≤ k → get_or (take low xs ++ behind) k d ≡ get_or behind (k - low) d
       at-place k d a = get_or-append_right (take low xs) behind low k d (omega (arith, order, within, length-take low xs)) a
 

@@ -1,9 +1,9 @@
 -- An item that goes through pages.
-use Rattle.std.proofs.Common.{◌≡◌, ℕ, zero, suc, ◌+◌, ◌-◌, ◌*◌, ◌<◌, ◌≤◌, min, List, [], ◌∷◌, ◌++◌, take, drop, length, get_or, insert, remove, refl, sym, ap, subst, ◌∙◌, arith, append_assoc}
+use Rattle.std.proofs.Common.{◌≡◌, ℕ, zero, suc, ◌-◌, ◌*◌, ◌<◌, ◌≤◌, List, [], ◌∷◌, ◌++◌, take, drop, length, get_or, insert, remove, refl, sym, ap, subst, ◌∙◌, arith, append_assoc}
 use Rattle.std.proofs.Math.ListN.{set}
 use Rattle.std.proofs.lemmas.List.{append-nil}
 use Rattle.std.proofs.lemmas.List.Edits.{insert-append_left}
-use Rattle.paged_list.specs.Pages.{PageItems, KeepsShape, Packed, Roomy, flat, places_for, put_behind}
+use Rattle.paged_list.specs.Pages.{PageItems, KeepsShape, Packed, Roomy, flat, put_behind}
 
 module _ {T : Type 0} where
   behind-more : (k : ℕ) (q : PageItems T) (ps : List (PageItems T)) (ys : List T) → flat (take (suc k) (q ∷ ps)) ++ ys ≡ q.items ++ (flat (take k ps) ++ ys)
@@ -57,6 +57,7 @@ module _ {T : Type 0} where
       sizes : (k : ℕ) (c : PageItems T) → length (get_or (p ∷ ps) k c).items ≡ length (get_or (q ∷ ps) k c).items
       sizes zero c = e
       sizes (suc k) c = refl
+
       capacities : (k : ℕ) (c : PageItems T) → (get_or (q ∷ ps) k c).capacity ≤ (get_or (p ∷ ps) k c).capacity
       capacities zero c = l
       capacities (suc k) c = omega arith
@@ -67,6 +68,7 @@ module _ {T : Type 0} where
       sizes : KeepsShape ps (set ps k p) → (j : ℕ) (c : PageItems T) → length (get_or (q ∷ set ps k p) j c).items ≡ length (get_or (q ∷ ps) j c).items
       sizes rest zero c = refl
       sizes rest (suc j) c = rest.sizes j c
+
       capacities : KeepsShape ps (set ps k p) → (j : ℕ) (c : PageItems T) → (get_or (q ∷ ps) j c).capacity ≤ (get_or (q ∷ set ps k p) j c).capacity
       capacities rest zero c = omega arith
       capacities rest (suc j) c = rest.capacities j c

@@ -1,9 +1,8 @@
 -- An item by its page and its place there.
-use Rattle.std.proofs.Common.{◌≡◌, ℕ, zero, suc, ◌+◌, ◌-◌, ◌*◌, ◌<◌, ◌≤◌, ◌/◌, ◌%◌, min, List, [], ◌∷◌, ◌++◌, take, drop, length, get_or, insert, remove, refl, sym, ap, subst, ◌∙◌, arith}
+use Rattle.std.proofs.Common.{◌≡◌, ℕ, suc, ◌-◌, ◌*◌, ◌<◌, ◌/◌, ◌%◌, List, ◌++◌, take, drop, length, get_or, sym, ap, ◌∙◌, arith}
 use Rattle.std.proofs.Math.ListN.{set}
-use Rattle.std.proofs.lemmas.List.{length-append, get_or-append_right, get_or_append_left, set-append_left, set-append_right}
-use Rattle.std.proofs.lemmas.List.Edits.{insert-append_left, insert-append_right, remove-append_left, remove-append_right}
-use Rattle.paged_list.specs.Pages.{PageItems, Packed, Roomy, ArePages, flat, places_for}
+use Rattle.std.proofs.lemmas.List.{get_or-append_right, get_or_append_left, set-append_left, set-append_right}
+use Rattle.paged_list.specs.Pages.{PageItems, Packed, flat}
 use Rattle.paged_list.proofs.Packs.{flat-at, flat-set, packed-at, packed-front, packed-length, packed-reach}
 
 module _ {T : Type 0} where

@@ -1,7 +1,6 @@
 -- Pages that are added, and pages that can hold more.
-use Rattle.std.proofs.Common.{◌≡◌, ℕ, zero, suc, ◌+◌, ◌-◌, ◌*◌, ◌<◌, ◌≤◌, min, List, [], ◌∷◌, ◌++◌, length, get_or, refl, sym, ap, subst, ◌∙◌, arith}
+use Rattle.std.proofs.Common.{◌≡◌, ℕ, zero, suc, ◌-◌, ◌*◌, ◌<◌, ◌≤◌, List, [], ◌∷◌, ◌++◌, length, get_or, refl, sym, ap, subst, arith}
 use Rattle.std.proofs.Math.ListN.{set}
-use Rattle.std.proofs.lemmas.List.{append-nil}
 use Rattle.paged_list.specs.Pages.{PageItems, Packed, Roomy, flat, places_for}
 
 module _ {T : Type 0} where
@@ -20,9 +19,10 @@ module _ {T : Type 0} where
   pub roomy-from : (c : ℕ) (ps : List (PageItems T)) (d : PageItems T) → c ≤ length ps * 4096 → ((k : ℕ) → k < length ps → places_for (c - k * 4096) ≤ (get_or ps k d).capacity) → Roomy c ps
   roomy-from c [] d h wide = omega (arith, h)
   roomy-from c (p ∷ ps) d h wide =
-      let first : c - zero * 4096 ≡ c = omega arith in
-      (subst (λ m. places_for m ≤ p.capacity) first (wide zero (omega arith)),
-      roomy-from (c - 4096) ps d (omega (arith, h)) (λ k l. let next : c - suc k * 4096 ≡ c - 4096 - k * 4096 = omega arith in subst (λ m. places_for m ≤ (get_or ps k d).capacity) next (wide (suc k) (omega arith))))
+      let first : c - zero * 4096 ≡ c = omega arith in (
+        subst (λ m. places_for m ≤ p.capacity) first (wide zero (omega arith)),
+        roomy-from (c - 4096) ps d (omega (arith, h)) (λ k l. let next : c - suc k * 4096 ≡ c - 4096 - k * 4096 = omega arith in subst (λ m. places_for m ≤ (get_or ps k d).capacity) next (wide (suc k) (omega arith))),
+      )
 
   -- the items stay where each page's do
   pub flat-kept : (k : ℕ) (ps : List (PageItems T)) (p d : PageItems T) → p.items ≡ (get_or ps k d).items → flat (set ps k p) ≡ flat ps

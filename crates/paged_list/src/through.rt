@@ -33,11 +33,7 @@ pub(crate) fn push_through<T: Drop>(
 
 /// Takes out the first item of the first page, and the last page's first item of all goes to the page
 /// in front of it.
-pub(crate) fn pull_through<T: Drop>(
-    pages: &mut [Page<T>],
-    first: usize,
-    last: usize,
-) -> T
+pub(crate) fn pull_through<T: Drop>(pages: &mut [Page<T>], first: usize, last: usize) -> T
     requires order { first ≤ last }
     requires within { last < length pages.old }
     requires full { AreFull pages.old first last }
@@ -63,12 +59,7 @@ pub(crate) fn pull_through<T: Drop>(
 }
 
 /// Puts an item in.
-pub(crate) fn insert_at<T: Drop>(
-    pages: &mut [Page<T>],
-    len: usize,
-    at: usize,
-    item: T,
-)
+pub(crate) fn insert_at<T: Drop>(pages: &mut [Page<T>], len: usize, at: usize, item: T)
     requires at { at ≤ len }
     requires packed { Packed len pages.old }
     requires place { HasPlace pages.old len }

@@ -1,4 +1,4 @@
-use Rattle.std.proofs.Common.{◌≡◌, ◌+◌, ◌++◌, ◌∷◌, [], ap, subst, sym, ◌∙◌, arith}
+use Rattle.std.proofs.Common.{ap, subst, sym, ◌∙◌, arith}
 use Rattle.paged_list.specs.Pages.{Packed, Roomy, flat}
 use Rattle.paged_list.proofs.Widened.{flat-more, packed-longer, roomy-longer}
 use Rattle.paged_list.proofs.through.add_pages.Goals as goal

@@ -1,4 +1,4 @@
-use Rattle.std.proofs.Common.{◌≡◌, ◌++◌, length, take, drop, ap, subst, sym, ◌∙◌, arith}
+use Rattle.std.proofs.Common.{length, ap, subst, sym, ◌∙◌, arith}
 use Rattle.paged_list.specs.Pages.{Packed, Roomy}
 use Rattle.paged_list.proofs.Passed.{packed-same, roomy-same}
 use Rattle.paged_list.proofs.Edits.{written-back}

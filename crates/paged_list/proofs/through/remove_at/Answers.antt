@@ -1,8 +1,7 @@
-use Rattle.std.proofs.Common.{◌≡◌, zero, suc, ◌+◌, ◌-◌, ◌*◌, ◌/◌, ◌%◌, ◌<◌, ◌≤◌, ◌++◌, ◌∷◌, [], min, length, get_or, insert, remove, ap, subst, sym, ◌∙◌, arith}
-use Rattle.std.proofs.Math.ListN.{set}
+use Rattle.std.proofs.Common.{◌-◌, ◌/◌, ◌%◌, ◌<◌, ◌∷◌, [], length, get_or, remove, ap, arith}
 use Rattle.std.proofs.lemmas.List.{length-append}
 use Rattle.std.proofs.lemmas.List.Edits.{length-remove}
-use Rattle.paged_list.specs.Pages.{Packed, flat}
+use Rattle.paged_list.specs.Pages.{flat}
 use Rattle.paged_list.proofs.Packs.{packed-at, packed-reach, packed-set, roomy-set}
 use Rattle.paged_list.proofs.Places.{placed}
 use Rattle.paged_list.proofs.Passed.{packed-less}

@@ -1,4 +1,4 @@
-use Rattle.std.proofs.Common.{◌≡◌, ◌<◌, ◌/◌, ◌%◌, length, get_or, ap, sym, subst, ◌∙◌, arith}
+use Rattle.std.proofs.Common.{◌/◌, ◌%◌, length, get_or, ap, sym, ◌∙◌, arith}
 use Rattle.paged_list.proofs.Packs.{packed-reach}
 use Rattle.paged_list.proofs.Places.{placed, item-at, within}
 use Rattle.paged_list.proofs.list.PagedList.get.Goals as goal

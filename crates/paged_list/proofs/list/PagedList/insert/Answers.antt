@@ -1,4 +1,4 @@
-use Rattle.std.proofs.Common.{◌≡◌, length, insert, ap, subst, sym, ◌∙◌, ◌+◌, ◌<◌, ◌≤◌, arith}
+use Rattle.std.proofs.Common.{length, ap, subst, sym, ◌<◌, arith}
 use Rattle.paged_list.specs.Pages.{HasPlace}
 use Rattle.paged_list.proofs.Packs.{packed-length}
 use Rattle.paged_list.proofs.Edits.{has-place}

@@ -1,4 +1,4 @@
-use Rattle.std.proofs.Common.{◌≡◌, suc, ◌+◌, ◌-◌, ◌<◌, ◌≤◌, ◌++◌, ◌∷◌, take, drop, replicate, length, get_or, Some, ap, sym, ◌∙◌, arith, vec_len}
+use Rattle.std.proofs.Common.{◌≡◌, suc, ◌+◌, ◌-◌, ◌++◌, take, drop, replicate, get_or, Some, ap, sym, ◌∙◌, arith, vec_len}
 use Rattle.std.proofs.Math.ListN.{set}
 use Rattle.std.proofs.lemmas.List.{get_or-take, take-take}
 use Rattle.paged_list.proofs.Moves.{filled-one}
@@ -14,7 +14,7 @@ loop-item-preserved g c =
     let same : vec_len c.loop-item.more - 1 ≡ n = omega (arith, popped) in
     let read : c.in-Some.item ≡ get_or c.loop-item.more.items (vec_len c.loop-item.more - 1) c.in-Some.item = cc in
     let item : c.in-Some.item ≡ get_or all n c.in-Some.item =
-        read ∙ ap (λ i. get_or c.loop-item.more.items i c.in-Some.item) same ∙ ap (λ v. get_or v n c.in-Some.item) kept.more ∙ get_or-take (vec_len c.loop-item.more) all n c.in-Some.item (omega (arith, popped)) in
+    read ∙ ap (λ i. get_or c.loop-item.more.items i c.in-Some.item) same ∙ ap (λ v. get_or v n c.in-Some.item) kept.more ∙ get_or-take (vec_len c.loop-item.more) all n c.in-Some.item (omega (arith, popped)) in
     let place : c.loop-item.place - 1 ≡ c.args.at + n = omega (arith, kept.place, popped) in
     record {
       items = c.replace.ensures.items

@@ -1,4 +1,4 @@
-use Rattle.std.proofs.Common.{◌+◌, ◌-◌, arith}
+use Rattle.std.proofs.Common.{arith}
 use Rattle.paged_list.proofs.Moves.{moved-down}
 use Rattle.paged_list.proofs.list.PagedList.move_down.Goals as goal
 

@@ -1,5 +1,4 @@
-use Rattle.std.proofs.Common.{◌≡◌, ◌+◌, ◌-◌, length, get_or, replicate, ap, refl, sym, ◌∙◌, arith}
-use Rattle.std.proofs.lemmas.List.{get_or-drop, get_or-replicate}
+use Rattle.std.proofs.Common.{refl, arith}
 use Rattle.paged_list.proofs.Moves.{moved-up, plain-at}
 use Rattle.paged_list.proofs.list.PagedList.move_up.Goals as goal
 

@@ -1,6 +1,5 @@
-use Rattle.std.proofs.Common.{◌≡◌, length, ap, subst, sym, ◌∙◌, ◌+◌, ◌-◌, ◌/◌, ◌<◌, ◌≤◌, arith, zero}
+use Rattle.std.proofs.Common.{ap, subst, sym, ◌-◌, ◌/◌, arith, zero}
 use Rattle.paged_list.specs.Pages.{AreFull}
-use Rattle.paged_list.proofs.Packs.{packed-length}
 use Rattle.paged_list.proofs.Places.{within}
 use Rattle.paged_list.proofs.Edits.{full-pages}
 use Rattle.paged_list.proofs.list.PagedList.remove.Goals as goal
