@@ -16,7 +16,7 @@ work="$(mktemp -d)"
 trap 'rm -rf "$work"' EXIT
 
 cp "$top/HANDLES" "$work/"
-for crate in byte_cuts calc_num calc_addr calc_model run_tables block_column value_column; do
+for crate in byte_cuts calc_num calc_addr calc_model run_tables paged_list block_column value_column; do
     mkdir -p "$work/crates/$crate"
     for folder in src specs proofs; do
         if [ -d "$top/crates/$crate/$folder" ]; then cp -r "$top/crates/$crate/$folder" "$work/crates/$crate/"; fi

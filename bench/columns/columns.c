@@ -156,10 +156,25 @@ static void kinds(void) {
         set(&c, row, NUMBER, 5);
     seed = 777;
     uint64_t start = now();
-    for (int turn = 0; turn < 10000; turn++)
+    for (int turn = 0; turn < 100000; turn++)
         set(&c, row_below(ALL), turn % 2 ? NUMBER : BAD, 9);
     uint64_t end = now();
-    tell("block", "_kinds", 10000, start, end, checksum(&c));
+    tell("block", "_kinds", 100000, start, end, checksum(&c));
+    column_free(c);
+}
+
+static void walks(void) {
+    Column c = column_new();
+    for (uint32_t row = 0; row < MILLION; row++)
+        set(&c, row, (row + 1) % 1000 ? NUMBER : BAD, row + 1);
+    static const char *const names[] = {"_pieces", "_spans", "_next_used"};
+    for (int i = 0; i < 3; i++) {
+        uint64_t sum = 0, start = now();
+        for (uint32_t row = 0; row < MILLION; row++)
+            sum = sum * 31 + told(&c, row);
+        uint64_t end = now();
+        tell("value", names[i], MILLION, start, end, sum);
+    }
     column_free(c);
 }
 
@@ -170,5 +185,6 @@ int main(void) {
     gets_in(100000);
     kinds();
     edits("value");
+    walks();
     return 0;
 }

@@ -74,16 +74,21 @@ step t r u a b e kept h =
 pub length-step : (t u : Table) (a b : ℕ) (e : Slot) → IsColumn t → b ≤ LAST_ROW → a ≤ b → Step t u a b e → length (slots_of u) ≡ LAST_ROW - (b - a)
 length-step t u a b e c to order s = omega (arith, ap length s.slots, length-spliced a b zero e (slots_of t) (omega (arith, c.whole)), c.whole)
 
-pub inserted : (t u v : Table) (place count : ℕ) (e : Slot) → IsRowEdit place count → IsColumn t → Step t u (LAST_ROW - count) LAST_ROW e → IsTableOf v (spliced (place - 1) (place - 1) count e (slots_of u)) → IsTableOf v (rows_inserted (place - 1) count e (slots_of t))
-inserted t u v place count e edit c s h =
+-- rows that go at the end where others come, and the other way round
+pub inserted : (t v : Table) (place count : ℕ) (e : Slot) → IsRowEdit place count → IsColumn t
+    → IsTableOf v (spliced (place - 1) (place - 1) count e (spliced (LAST_ROW - count) (LAST_ROW - count + count) zero e (slots_of t))) → IsTableOf v (rows_inserted (place - 1) count e (slots_of t))
+inserted t v place count e edit c h =
+    let end : LAST_ROW - count + count ≡ LAST_ROW = omega (arith, edit.from, edit.to) in
     subst (IsTableOf v)
-    (ap (spliced (place - 1) (place - 1) count e) s.slots ∙ rows_inserted-steps (place - 1) count LAST_ROW e e (slots_of t) c.whole (omega (arith, edit.from, edit.to))) h
+    (ap (λ b. spliced (place - 1) (place - 1) count e (spliced (LAST_ROW - count) b zero e (slots_of t))) end
+    ∙ rows_inserted-steps (place - 1) count LAST_ROW e e (slots_of t) c.whole (omega (arith, edit.from, edit.to))) h
 
-pub erased : (t u v : Table) (place count : ℕ) (e : Slot) → IsRowEdit place count → IsColumn t → Step t u (place - 1) (place - 1 + count) e → IsTableOf v (spliced (LAST_ROW - count) (LAST_ROW - count) count e (slots_of u)) → IsTableOf v (rows_erased (place - 1) count e (slots_of t))
-erased t u v place count e edit c s h =
-    let len : length (slots_of u) ≡ LAST_ROW - count = omega (arith, length-step t u (place - 1) (place - 1 + count) e c (omega (arith, edit.from, edit.to)) (omega arith) s) in
-    subst (IsTableOf v)
-    (at-end (LAST_ROW - count) count e (slots_of u) len ∙ ap (λ w. w ++ replicate count e) s.slots ∙ rows_erased-steps (place - 1) count e e (slots_of t)) h
+pub erased : (t v : Table) (place count : ℕ) (e : Slot) → IsRowEdit place count → IsColumn t
+    → IsTableOf v (spliced (LAST_ROW - count) (LAST_ROW - count) count e (spliced (place - 1) (place - 1 + count) zero e (slots_of t))) → IsTableOf v (rows_erased (place - 1) count e (slots_of t))
+erased t v place count e edit c h =
+    let s : List Slot = spliced (place - 1) (place - 1 + count) zero e (slots_of t) in
+    let len : length s ≡ LAST_ROW - count = omega (arith, length-spliced (place - 1) (place - 1 + count) zero e (slots_of t) (omega (arith, edit.from, edit.to, c.whole)), c.whole, edit.from, edit.to) in
+    subst (IsTableOf v) (at-end (LAST_ROW - count) count e s len ∙ rows_erased-steps (place - 1) count e e (slots_of t)) h
   where
     at-end : (a n : ℕ) (x : Slot) (w : List Slot) → length w ≡ a → spliced a a n x w ≡ w ++ replicate n x
     at-end a n x w is =
@@ -111,7 +116,7 @@ filled-count s = sym (length-filter is_filled s) ∙ filled-items s
 pub counted-items : (t : Table) → IsColumn t → item_count t.stores ≡ count_by is_filled (slots_of t)
 counted-items t c =
     let h = c.table.stores in
-    omega (arith, filled-count (slots_of t), ap length h.numbers, ap length h.words, ap length h.bad, ap length h.raw, ap length h.codes, t.stores.numbers.ok, t.stores.words.ok, t.stores.bad.ok, t.stores.raw.ok, t.stores.codes.ok)
+    omega (arith, filled-count (slots_of t), ap length h.numbers, ap length h.words, ap length h.bad, ap length h.raw, ap length h.codes)
 
 -- what holds in both outcomes
 pub either : {A E P Q R : Type 0} (r : Result A E) → OnOk r P → OnErr r Q → (P → R) → (Q → R) → R

@@ -13,11 +13,12 @@ use Rattle.block_column.specs.declared.block.Kind.{Kind}
 use Rattle.block_column.specs.declared.block.Kind.TheVariants.{Empty}
 use Rattle.block_column.specs.declared.block.Block.{Block}
 use Rattle.block_column.specs.declared.counts.Counts.{Counts}
+use Rattle.block_column.specs.declared.more.More.{More}
 use Rattle.block_column.specs.declared.stores.Stores.{Stores}
 use Rattle.block_column.specs.declared.table.Table.{Table}
 use Rattle.block_column.specs.Kinds.{kind_of, same_kind}
 use Rattle.block_column.specs.Counting.{no_items, tally}
-use Rattle.block_column.specs.Stores.{Holds, CanReplace, IsReplaced, KeepsRoom, a_number, a_text, a_fault, a_raw, a_code}
+use Rattle.block_column.specs.Stores.{Gives, Holds, CanReplace, IsReplaced, KeepsRoom, a_number, a_text, a_fault, a_raw, a_code}
 use Rattle.block_column.specs.Blocks.{block_run, a_block, block_kinds, blocks_of, counts_from, kind_key, woven}
 use Rattle.block_column.specs.Tables.{AreBlocks, IsTableOf, IsTable, slots_of, stored_slot}
 use Rattle.block_column.specs.KindTests.{kinds-decided}
@@ -76,11 +77,11 @@ can-replace t s a b low high h order l u =
     let from : CountsOn no_items (tally (take a s)) (take a s) = counts-on no_items (take a s) in
     let to : CountsOn no_items (tally (take b s)) (take b s) = counts-on no_items (take b s) in
     record {
-      numbers = (omega (arith, ap (λ (c : Counts). c.numbers) l, ap (λ (c : Counts). c.numbers) u, from.numbers, to.numbers, ahead-order a_number a b s order), omega (arith, ap (λ (c : Counts). c.numbers) u, to.numbers, ahead-all a_number b s, ap length h.numbers, t.numbers.ok));
-      words = (omega (arith, ap (λ (c : Counts). c.words) l, ap (λ (c : Counts). c.words) u, from.words, to.words, ahead-order a_text a b s order), omega (arith, ap (λ (c : Counts). c.words) u, to.words, ahead-all a_text b s, ap length h.words, t.words.ok));
-      bad = (omega (arith, ap (λ (c : Counts). c.bad) l, ap (λ (c : Counts). c.bad) u, from.bad, to.bad, ahead-order a_fault a b s order), omega (arith, ap (λ (c : Counts). c.bad) u, to.bad, ahead-all a_fault b s, ap length h.bad, t.bad.ok));
-      raw = (omega (arith, ap (λ (c : Counts). c.raw) l, ap (λ (c : Counts). c.raw) u, from.raw, to.raw, ahead-order a_raw a b s order), omega (arith, ap (λ (c : Counts). c.raw) u, to.raw, ahead-all a_raw b s, ap length h.raw, t.raw.ok));
-      codes = (omega (arith, ap (λ (c : Counts). c.codes) l, ap (λ (c : Counts). c.codes) u, from.codes, to.codes, ahead-order a_code a b s order), omega (arith, ap (λ (c : Counts). c.codes) u, to.codes, ahead-all a_code b s, ap length h.codes, t.codes.ok));
+      numbers = (omega (arith, ap (λ (c : Counts). c.numbers) l, ap (λ (c : Counts). c.numbers) u, from.numbers, to.numbers, ahead-order a_number a b s order), omega (arith, ap (λ (c : Counts). c.numbers) u, to.numbers, ahead-all a_number b s, ap length h.numbers));
+      words = (omega (arith, ap (λ (c : Counts). c.words) l, ap (λ (c : Counts). c.words) u, from.words, to.words, ahead-order a_text a b s order), omega (arith, ap (λ (c : Counts). c.words) u, to.words, ahead-all a_text b s, ap length h.words));
+      bad = (omega (arith, ap (λ (c : Counts). c.bad) l, ap (λ (c : Counts). c.bad) u, from.bad, to.bad, ahead-order a_fault a b s order), omega (arith, ap (λ (c : Counts). c.bad) u, to.bad, ahead-all a_fault b s, ap length h.bad));
+      raw = (omega (arith, ap (λ (c : Counts). c.raw) l, ap (λ (c : Counts). c.raw) u, from.raw, to.raw, ahead-order a_raw a b s order), omega (arith, ap (λ (c : Counts). c.raw) u, to.raw, ahead-all a_raw b s, ap length h.raw));
+      codes = (omega (arith, ap (λ (c : Counts). c.codes) l, ap (λ (c : Counts). c.codes) u, from.codes, to.codes, ahead-order a_code a b s order), omega (arith, ap (λ (c : Counts). c.codes) u, to.codes, ahead-all a_code b s, ap length h.codes));
     }
 
 -- the items of a column after an edit
@@ -220,7 +221,7 @@ empty-table t n m e fits blocks counts places stores =
     }
 
 -- the items of empty rows
-pub no-items : (t : Stores) (n : ℕ) (e : Slot) → e ≡ slot.Empty → Holds t (replicate n e) → Holds t []
+pub no-items : (t : More) (n : ℕ) (e : Slot) → e ≡ slot.Empty → Gives t (replicate n e) → Gives t []
 no-items t n e is h = record {
   numbers = h.numbers ∙ filter-rows_none a_number n e (ap a_number is);
   words = h.words ∙ filter-rows_none a_text n e (ap a_text is);

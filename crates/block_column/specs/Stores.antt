@@ -1,11 +1,11 @@
 -- The items of each kind of slot, in the order of their rows.
-use Rattle.std.specs.Prelude.{◌≡◌, ℕ, ℤ, ◌+◌, ◌-◌, ◌≤◌, min, List, ◌++◌, take, drop, Option, None, Some, vec_len}
-use Rattle.std.specs.Vec.{vec_capacity}
+use Rattle.std.specs.Prelude.{◌≡◌, ℕ, ℤ, ◌+◌, ◌≤◌, min, List, ◌++◌, length, take, drop, Option, None, Some, vec_len}
 use Rattle.std.specs.List.{filter_map}
 use Rattle.calc_model.specs.declared.fault.Fault.{Fault}
 use Rattle.block_column.specs.declared.slot.Slot.{Slot}
 use Rattle.block_column.specs.declared.slot.Slot.TheVariants.{Number, Words, Bad, Raw, Formula}
 use Rattle.block_column.specs.declared.counts.Counts.{Counts}
+use Rattle.block_column.specs.declared.more.More.{More}
 use Rattle.block_column.specs.declared.stores.Stores.{Stores}
 
 abbrev pub a_number : Slot → Option ℤ
@@ -36,13 +36,18 @@ pub record Holds (stores : Stores) (s : List Slot) : Type 0 where
   pub raw : stores.raw.items ≡ filter_map a_raw s
   pub codes : stores.codes.items ≡ filter_map a_code s
 
+-- the items to come are those of some slots
+pub record Gives (more : More) (s : List Slot) : Type 0 where
+  pub numbers : more.numbers.items ≡ filter_map a_number s
+  pub words : more.words.items ≡ filter_map a_text s
+  pub bad : more.bad.items ≡ filter_map a_fault s
+  pub raw : more.raw.items ≡ filter_map a_raw s
+  pub codes : more.codes.items ≡ filter_map a_code s
+
 -- how many items of any kind can be put in before memory is asked for
 abbrev pub store_room : Stores → ℕ
 store_room t =
-    min (vec_capacity t.numbers - vec_len t.numbers)
-    (min (vec_capacity t.words - vec_len t.words)
-    (min (vec_capacity t.bad - vec_len t.bad)
-    (min (vec_capacity t.raw - vec_len t.raw) (vec_capacity t.codes - vec_len t.codes))))
+    min t.numbers.room (min t.words.room (min t.bad.room (min t.raw.room t.codes.room)))
 
 -- the items stay, and the room doesn't shrink
 pub record KeepsRoom (old new : Stores) : Type 0 where
@@ -55,11 +60,11 @@ pub record KeepsRoom (old new : Stores) : Type 0 where
 
 -- the items from the low places to the high ones can be taken out, and n put in there
 pub record CanReplace (stores : Stores) (low high : Counts) : Type 0 where
-  pub numbers : (low.numbers ≤ high.numbers) × (high.numbers ≤ vec_len stores.numbers)
-  pub words : (low.words ≤ high.words) × (high.words ≤ vec_len stores.words)
-  pub bad : (low.bad ≤ high.bad) × (high.bad ≤ vec_len stores.bad)
-  pub raw : (low.raw ≤ high.raw) × (high.raw ≤ vec_len stores.raw)
-  pub codes : (low.codes ≤ high.codes) × (high.codes ≤ vec_len stores.codes)
+  pub numbers : (low.numbers ≤ high.numbers) × (high.numbers ≤ length stores.numbers.items)
+  pub words : (low.words ≤ high.words) × (high.words ≤ length stores.words.items)
+  pub bad : (low.bad ≤ high.bad) × (high.bad ≤ length stores.bad.items)
+  pub raw : (low.raw ≤ high.raw) × (high.raw ≤ length stores.raw.items)
+  pub codes : (low.codes ≤ high.codes) × (high.codes ≤ length stores.codes.items)
 
 -- at most one item of each kind
 pub record IsOneRow (low high : Counts) : Type 0 where
@@ -70,12 +75,12 @@ pub record IsOneRow (low high : Counts) : Type 0 where
   pub codes : high.codes ≤ low.codes + 1
 
 -- there is room for more items, kind by kind
-pub record HasRoom (stores more : Stores) : Type 0 where
-  pub numbers : vec_len stores.numbers + vec_len more.numbers ≤ vec_capacity stores.numbers
-  pub words : vec_len stores.words + vec_len more.words ≤ vec_capacity stores.words
-  pub bad : vec_len stores.bad + vec_len more.bad ≤ vec_capacity stores.bad
-  pub raw : vec_len stores.raw + vec_len more.raw ≤ vec_capacity stores.raw
-  pub codes : vec_len stores.codes + vec_len more.codes ≤ vec_capacity stores.codes
+pub record HasRoom (stores : Stores) (more : More) : Type 0 where
+  pub numbers : vec_len more.numbers ≤ stores.numbers.room
+  pub words : vec_len more.words ≤ stores.words.room
+  pub bad : vec_len more.bad ≤ stores.bad.room
+  pub raw : vec_len more.raw ≤ stores.raw.room
+  pub codes : vec_len more.codes ≤ stores.codes.room
 
 -- the items of s take the place of those from the low places to the high ones
 pub record IsReplaced (old new : Stores) (low high : Counts) (s : List Slot) : Type 0 where
@@ -87,4 +92,4 @@ pub record IsReplaced (old new : Stores) (low high : Counts) (s : List Slot) : T
 
 -- how many items there are
 abbrev pub item_count : Stores → ℕ
-item_count t = vec_len t.numbers + (vec_len t.words + vec_len t.raw) + (vec_len t.bad + vec_len t.codes)
+item_count t = length t.numbers.items + (length t.words.items + length t.raw.items) + (length t.bad.items + length t.codes.items)

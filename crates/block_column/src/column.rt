@@ -50,8 +50,8 @@ impl BlockColumn {
         self.table.reserve(n)
     }
 
-    /// Puts a slot in a row. It is linear in the blocks where the kind of the row changes, and in
-    /// the items of the two kinds behind the row.
+    /// Puts a slot in a row. Where the kind of the row changes it is linear in the blocks, and in a
+    /// page of items and the pages behind it.
     pub fn set(&mut self, row: u32, slot: Slot) -> Result<(), NoMemory>
         requires { AreRows row row }
         ensures ok { OnOk result (self.new.slots ≡ slice_set self.old.slots (row - 1) slot) }

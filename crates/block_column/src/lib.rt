@@ -4,6 +4,7 @@
 mod block;
 mod column;
 mod counts;
+mod more;
 mod replace;
 mod slot;
 mod stores;

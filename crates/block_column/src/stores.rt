@@ -1,25 +1,27 @@
 ghost use Rattle.std.specs.Prelude.{◌≡◌, [], ◌∷◌, ◌+◌, ◌≤◌, List, replicate, vec_len, ◌<◌, ◌^◌, Some, IsSome, IfOk, OnOk, OnErr, IsOk};
 ghost use Rattle.block_column.specs.Kinds.{lent_slot};
 ghost use Rattle.block_column.specs.Tables.{stored_slot};
-ghost use Rattle.block_column.specs.Stores.{Holds, IsReplaced, CanReplace, KeepsRoom, a_code, a_fault, a_number, a_raw, a_text, item_count, store_room, IsOneRow, HasRoom};
+ghost use Rattle.block_column.specs.Stores.{Gives, Holds, IsReplaced, CanReplace, KeepsRoom, a_code, a_fault, a_number, a_raw, a_text, item_count, store_room, IsOneRow, HasRoom};
 
 use crate::block::Kind;
 use crate::counts::Counts;
+use crate::more::More;
 use crate::replace::{put_many, put_one};
 use crate::slot::{Slot, SlotRef};
 use calc_addr::NoMemory;
 use calc_model::{CodeId, Fault, Text};
 use calc_num::Num;
+use paged_list::PagedList;
 use std::alloc::Global;
 
 /// The items of each kind of slot, in the order of their rows.
 #[derive(Debug, Drop)]
 pub(crate) struct Stores {
-    pub(crate) numbers: Vec<Num>,
-    pub(crate) words: Vec<Text>,
-    pub(crate) bad: Vec<Fault>,
-    pub(crate) raw: Vec<Text>,
-    pub(crate) codes: Vec<CodeId>,
+    pub(crate) numbers: PagedList<Num>,
+    pub(crate) words: PagedList<Text>,
+    pub(crate) bad: PagedList<Fault>,
+    pub(crate) raw: PagedList<Text>,
+    pub(crate) codes: PagedList<CodeId>,
 }
 
 /// The item of a slot, by its kind.
@@ -59,28 +61,16 @@ impl Item {
     }
 }
 
-/// So many copies of a text.
-fn texts(alloc: Global, count: usize, text: &Text) -> Result<Vec<Text>, NoMemory>
-    ensures { IfOk result (λ texts. texts.items ≡ replicate count text.now) }
-{
-    let mut texts = Vec::new(alloc);
-    texts.reserve(count)?;
-    for _ in 0..count {
-        texts.push(text.copy(alloc)?)?;
-    }
-    Ok(texts)
-}
-
 impl Stores {
     pub(crate) fn new(alloc: Global) -> Stores
         ensures { Holds result [] }
     {
         Stores {
-            numbers: Vec::new(alloc),
-            words: Vec::new(alloc),
-            bad: Vec::new(alloc),
-            raw: Vec::new(alloc),
-            codes: Vec::new(alloc),
+            numbers: PagedList::new(alloc),
+            words: PagedList::new(alloc),
+            bad: PagedList::new(alloc),
+            raw: PagedList::new(alloc),
+            codes: PagedList::new(alloc),
         }
     }
 
@@ -108,10 +98,10 @@ impl Stores {
     }
 
     /// Room for more items, kind by kind.
-    pub(crate) fn make_room(&mut self, more: &Stores) -> Result<(), NoMemory>
+    pub(crate) fn make_room(&mut self, more: &More) -> Result<(), NoMemory>
         ensures room { OnOk result (HasRoom self.new more.now) }
         ensures kept { KeepsRoom self.old self.new }
-        ensures succeeds { Holds more.now [] → IsOk result }
+        ensures succeeds { Gives more.now [] → IsOk result }
     {
         self.numbers.reserve(more.numbers.len())?;
         self.words.reserve(more.words.len())?;
@@ -152,11 +142,11 @@ impl Stores {
     }
 
     /// Puts items in the place of those from the low places to the high ones.
-    pub(crate) fn replace(&mut self, low: Counts, high: Counts, more: Stores)
+    pub(crate) fn replace(&mut self, low: Counts, high: Counts, more: More)
         requires within { CanReplace self.old low high }
         requires room { HasRoom self.old more }
-        ensures items { (s : List Slot) → Holds more s → IsReplaced self.old self.new low high s }
-        ensures room { Holds more [] → store_room self.old ≤ store_room self.new }
+        ensures items { (s : List Slot) → Gives more s → IsReplaced self.old self.new low high s }
+        ensures room { Gives more [] → store_room self.old ≤ store_room self.new }
     {
         put_many(
             &mut self.numbers,
@@ -180,38 +170,6 @@ impl Stores {
         );
     }
 
-    /// The items of so many rows that hold a slot.
-    #[tactic(auto, using(crate::proofs::Filtered::filter_rows))]
-    pub(crate) fn of_rows(alloc: Global, rows: usize, slot: &Slot) -> Result<Stores, NoMemory>
-        ensures items { IfOk result (λ stores. Holds stores (replicate rows slot.now)) }
-        ensures empty { slot.now ≡ Slot.Empty → IsOk result }
-    {
-        let new = Stores::new(alloc);
-        match slot {
-            Slot::Empty => Ok(new),
-            Slot::Number(number) => Ok(Stores {
-                numbers: vec![in alloc; *number; rows]?,
-                ..new
-            }),
-            Slot::Words(text) => Ok(Stores {
-                words: texts(alloc, rows, text)?,
-                ..new
-            }),
-            Slot::Bad(fault) => Ok(Stores {
-                bad: vec![in alloc; *fault; rows]?,
-                ..new
-            }),
-            Slot::Raw(text) => Ok(Stores {
-                raw: texts(alloc, rows, text)?,
-                ..new
-            }),
-            Slot::Formula(id) => Ok(Stores {
-                codes: vec![in alloc; *id; rows]?,
-                ..new
-            }),
-        }
-    }
-
     /// The slot of a kind with the item at a place.
     pub(crate) fn lend(&self, kind: Kind, at: Counts) -> SlotRef<'_>
         requires { IsSome (stored_slot self.now kind at) }
@@ -219,11 +177,11 @@ impl Stores {
     {
         match kind {
             Kind::Empty => SlotRef::Empty,
-            Kind::Number => SlotRef::Number(self.numbers[at.numbers as usize]),
-            Kind::Words => SlotRef::Words(&self.words[at.words as usize]),
-            Kind::Bad => SlotRef::Bad(self.bad[at.bad as usize]),
-            Kind::Raw => SlotRef::Raw(&self.raw[at.raw as usize]),
-            Kind::Formula => SlotRef::Formula(self.codes[at.codes as usize]),
+            Kind::Number => SlotRef::Number(*self.numbers.get(at.numbers as usize)),
+            Kind::Words => SlotRef::Words(self.words.get(at.words as usize)),
+            Kind::Bad => SlotRef::Bad(*self.bad.get(at.bad as usize)),
+            Kind::Raw => SlotRef::Raw(self.raw.get(at.raw as usize)),
+            Kind::Formula => SlotRef::Formula(*self.codes.get(at.codes as usize)),
         }
     }
 }

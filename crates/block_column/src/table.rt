@@ -13,6 +13,7 @@ ghost use Rattle.block_column.specs.Tables.{AreBlocks, HasPlaces, HasRow, IsAtRo
 
 use crate::block::{Block, Kind};
 use crate::counts::Counts;
+use crate::more::More;
 use crate::slot::{Slot, SlotRef};
 use crate::stores::Stores;
 use calc_addr::{LAST_ROW, NoMemory};
@@ -246,7 +247,7 @@ impl Table {
             → room_of self.old ≤ room_of self.new + 1) }
         ensures places { (n : ℕ) → HasPlaces (n + PLACES) self.old → HasPlaces n self.new }
     {
-        let more = Stores::of_rows(alloc, rows as usize, slot)?;
+        let more = More::of_rows(alloc, rows as usize, slot)?;
         let low = self.ahead(from);
         let high = self.ahead(to);
         self.stores.make_room(&more)?;
@@ -262,6 +263,20 @@ impl Table {
         Ok(())
     }
 
+    /// Takes out rows behind the first ones, and then puts in as many empty ones behind others.
+    fn move_rows(&mut self, alloc: Global, cut: u32, gap: u32, count: u32) -> Result<(), NoMemory>
+        requires column { IsColumn self.old }
+        requires cut { cut + count ≤ LAST_ROW }
+        requires gap { gap + count ≤ LAST_ROW }
+        ensures ok { OnOk result (IsTableOf self.new (spliced gap gap count Slot.Empty
+            (spliced cut (cut + count) 0 Slot.Empty (slots_of self.old)))) }
+        ensures err { OnErr result (IsTableOf self.new (slots_of self.old)) }
+    {
+        self.reserve_places(2)?;
+        self.fill(alloc, cut, cut + count, 0, &Slot::Empty)?;
+        self.fill(alloc, gap, gap, count, &Slot::Empty)
+    }
+
     /// Puts in empty rows from a place on, and drops as many at the end.
     pub(crate) fn insert_rows(
         &mut self,
@@ -275,9 +290,7 @@ impl Table {
             (rows_inserted (place - 1) count Slot.Empty (slots_of self.old))) }
         ensures err { OnErr result (IsTableOf self.new (slots_of self.old)) }
     {
-        self.reserve_places(2)?;
-        self.fill(alloc, LAST_ROW - count, LAST_ROW, 0, &Slot::Empty)?;
-        self.fill(alloc, place - 1, place - 1, count, &Slot::Empty)
+        self.move_rows(alloc, LAST_ROW - count, place - 1, count)
     }
 
     /// Takes out rows from a place on, and adds as many empty ones at the end.
@@ -293,14 +306,6 @@ impl Table {
             (rows_erased (place - 1) count Slot.Empty (slots_of self.old))) }
         ensures err { OnErr result (IsTableOf self.new (slots_of self.old)) }
     {
-        self.reserve_places(2)?;
-        self.fill(alloc, place - 1, place - 1 + count, 0, &Slot::Empty)?;
-        self.fill(
-            alloc,
-            LAST_ROW - count,
-            LAST_ROW - count,
-            count,
-            &Slot::Empty,
-        )
+        self.move_rows(alloc, place - 1, LAST_ROW - count, count)
     }
 }

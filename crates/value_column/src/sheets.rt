@@ -156,72 +156,6 @@ fn reserve_rows(
     Ok(())
 }
 
-/// Makes neighbouring rows of a column blank, if it was ever used.
-fn clear_rows(
-    columns: &mut Vec<Option<ValueColumn>>,
-    place: usize,
-    first: u32,
-    last: u32,
-) -> Result<(), NoMemory>
-    requires rows { AreRows first last }
-    ensures ok { OnOk result (IsEdited columns.old.items columns.new.items place
-        (λ s. rows_set (first - 1) (last + 1 - first) value.Blank s)) }
-    ensures err { OnErr result (ShowsSame columns.old.items columns.new.items) }
-    ensures reserved { 1 ≤ spare_in columns.old.items place → IsOk result }
-    ensures spare { OnOk result (spare_in columns.old.items place
-        ≤ spare_in columns.new.items place + 1) }
-{
-    if place >= columns.len() {
-        return Ok(());
-    }
-    match &mut columns[place] {
-        Some(column) => column.clear(first, last),
-        None => Ok(()),
-    }
-}
-
-/// Puts blank rows in a column, if it was ever used.
-fn insert_rows(
-    columns: &mut Vec<Option<ValueColumn>>,
-    place: usize,
-    row: u32,
-    count: u32,
-) -> Result<(), NoMemory>
-    requires rows { IsRowEdit row count }
-    ensures ok { OnOk result (IsEdited columns.old.items columns.new.items place
-        (λ s. rows_inserted (row - 1) count value.Blank s)) }
-    ensures err { OnErr result (ShowsSame columns.old.items columns.new.items) }
-{
-    if place >= columns.len() {
-        return Ok(());
-    }
-    match &mut columns[place] {
-        Some(column) => column.insert_empty(row, count),
-        None => Ok(()),
-    }
-}
-
-/// Takes rows out of a column, if it was ever used.
-fn erase_rows(
-    columns: &mut Vec<Option<ValueColumn>>,
-    place: usize,
-    row: u32,
-    count: u32,
-) -> Result<(), NoMemory>
-    requires rows { IsRowEdit row count }
-    ensures ok { OnOk result (IsEdited columns.old.items columns.new.items place
-        (λ s. rows_erased (row - 1) count value.Blank s)) }
-    ensures err { OnErr result (ShowsSame columns.old.items columns.new.items) }
-{
-    if place >= columns.len() {
-        return Ok(());
-    }
-    match &mut columns[place] {
-        Some(column) => column.erase(row, count),
-        None => Ok(()),
-    }
-}
-
 impl ValueSheets {
     /// No column, which takes no memory.
     pub fn new(alloc: Global) -> ValueSheets
@@ -300,7 +234,13 @@ impl ValueSheets {
             ≤ spare_in self.new (column_place run.sheet run.col) + 1) }
     {
         let place = place_of(run.sheet, run.col);
-        clear_rows(&mut self.columns, place, run.first, run.last)
+        if place >= self.columns.len() {
+            return Ok(());
+        }
+        match &mut self.columns[place] {
+            Some(column) => column.clear(run.first, run.last),
+            None => Ok(()),
+        }
     }
 
     /// Puts blank rows in a column.
@@ -318,7 +258,13 @@ impl ValueSheets {
         ensures err { OnErr result (ShowsSame self.old self.new) }
     {
         let column = place_of(sheet, col);
-        insert_rows(&mut self.columns, column, place, count)
+        if column >= self.columns.len() {
+            return Ok(());
+        }
+        match &mut self.columns[column] {
+            Some(rows) => rows.insert_empty(place, count),
+            None => Ok(()),
+        }
     }
 
     /// Takes rows out of a column.
@@ -330,7 +276,13 @@ impl ValueSheets {
         ensures err { OnErr result (ShowsSame self.old self.new) }
     {
         let column = place_of(sheet, col);
-        erase_rows(&mut self.columns, column, place, count)
+        if column >= self.columns.len() {
+            return Ok(());
+        }
+        match &mut self.columns[column] {
+            Some(rows) => rows.erase(place, count),
+            None => Ok(()),
+        }
     }
 
     /// Makes room for the setting or clearing of n cells of a column, which makes it used.

@@ -1,5 +1,5 @@
 use Rattle.std.proofs.Common.{◌≡◌, replicate}
-use Rattle.block_column.proofs.stores.texts.Given as goal
+use Rattle.block_column.proofs.more.texts.Given as goal
 
 abbrev pub invariant-loop : goal.invariant-loop
 invariant-loop l = l.texts.items ≡ replicate l.counter l.text

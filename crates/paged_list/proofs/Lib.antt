@@ -1,0 +1,6 @@
+mod Packs
+mod Places
+mod Passed
+mod Edits
+mod Widened
+mod Moves

@@ -1,0 +1,2 @@
+-- Pages: a page of a list.
+pub mod Pages
