@@ -10,7 +10,8 @@ use Rattle.calc_model.specs.Listeners.{listed, reads_one_of}
 use Rattle.ears.specs.RunAreas.{LieInSheet, hull, is_same_area, meets}
 use Rattle.ears.proofs.Meetings.{both_ways, inside_hull, meets-covers}
 use Rattle.area_listeners.specs.declared.listener.Listener.{Listener}
-use Rattle.area_listeners.specs.Listening.{AreMeeting, SlotLists, has_id}
+use Rattle.area_listeners.proofs.Told.{is_among}
+use Rattle.area_listeners.specs.Pairs.{AreMeeting, Pairs, has_id}
 use Rattle.listener_hub.specs.declared.registration.Registration.{Registration}
 use Rattle.listener_hub.specs.Cuts.{areas_in}
 use Rattle.listener_hub.specs.Hits.{any_hit, hits_at, is_hit}
@@ -71,7 +72,7 @@ row_below run q h =
     under : (f r l : ℕ) → f ≤ r → r ≤ l → r - f ≤ l - f
     under f r l h k = omega arith
 
-module _ (rs : Registrations) (ears homes : SlotLists) (slab : IsSlab rs ears homes) (area : Rectangle) (valid : IsRectangle area) (ids : List ℕ) (meeting : AreMeeting ears area ids) where
+module _ (rs : Registrations) (ears homes : Pairs) (slab : IsSlab rs ears homes) (area : Rectangle) (valid : IsRectangle area) (ids : List ℕ) (meeting : AreMeeting ears area ids) where
   -- a registration with a hit is one of those found
   hit_found : (i : ℕ) (o : Option Registration) (q : Place) → at rs i ≡ o → hits_at o area q ≡ true → has_id ids i ≡ true
   hit_found i None q is h = absurd (false≢true h)
@@ -80,7 +81,7 @@ module _ (rs : Registrations) (ears homes : SlotLists) (slab : IsSlab rs ears ho
       let parts = and_parts (is_in r.run q) (meets (area_at e.1 (q.row - r.run.first)) area) e.4 in
       let lies : LieInSheet (steps_of r.run) e.1 = subst (LieInSheet (steps_of r.run)) e.3 ((subst LiesInSheet is (slab.inside i)).1 e.0 e.1 e.2) in
       let l : Listener = record { area = hull e.1 (steps_of r.run); id = i } in
-      meeting.all l (hull_valid e.1 (steps_of r.run) lies)
+      is_among ears area ids meeting l
       (slab.heard l ∙ ap (λ o. hears o l.area) is ∙ list_any-from_Any (λ x. is_same_area l.area (hull x (steps_of r.run))) r.ears.items (e.0, e.1, e.2, e.3, same_itself l.area))
       (hull_meets e.1 (steps_of r.run) (q.row - r.run.first) area (row_below r.run q parts.0) parts.1)
 

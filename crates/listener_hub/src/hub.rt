@@ -1,11 +1,11 @@
-ghost use Rattle.std.specs.Prelude.{◌≡◌, ◌≤◌, false, true, None, Some, OnErr, OnOk, if◌then◌else◌};
+ghost use Rattle.std.specs.Prelude.{◌≡◌, ◌≤◌, false, length, true, None, Some, OnErr, OnOk, if◌then◌else◌};
 ghost use Rattle.std.specs.List.{All};
 ghost use Rattle.calc_addr.specs.Places.{Place, single};
 ghost use Rattle.calc_model.specs.Listeners.{AreReaders, Gets};
 ghost use Rattle.ears.specs.RowEdits.{IsRowEdit};
 ghost use Rattle.ears.specs.RunAreas.{LieInSheet};
 ghost use Rattle.listener_hub.specs.Changes.{IsPut, IsSlabOf};
-ghost use Rattle.listener_hub.specs.Hubs.{areas_read, registration_count};
+ghost use Rattle.listener_hub.specs.Hubs.{areas_read};
 ghost use Rattle.listener_hub.specs.Moves.{IsMoved, KeepsAll, deletion, insertion};
 ghost use Rattle.listener_hub.specs.Slab.{areas_at, areas_of, is_in, steps_of};
 
@@ -38,7 +38,7 @@ impl Model for Hub {
 
     ghost use Rattle.listener_hub.specs.Changes.{IsSlabOf};
 
-    ghost view = { λ h. record { registrations = h.slab.registrations.items; spent = h.spent } };
+    ghost view = { λ h. record { registrations = h.slab.registrations.items; listeners = h.slab.ears; spent = h.spent } };
 
     ghost invariant = { λ h. IsSlabOf h.slab };
 }
@@ -70,15 +70,12 @@ impl Hub {
         self.spent = true;
     }
 
-    /// How many runs are registered. Linear in the most that there were at a time. It serves tests alone.
-    pub fn registrations(&self) -> usize
-        ensures { result ≡ registration_count self.now }
+    /// How many pairs of an area and a run of formulas that reads it its listeners hold. It serves tests
+    /// alone.
+    pub fn registrations(&self) -> u64
+        ensures { result ≡ length self.now.listeners }
     {
-        self.slab
-            .registrations
-            .iter()
-            .filter(|place| place.is_some())
-            .count()
+        self.slab.ears.len() as u64
     }
 
     /// Adds the cells of a run, none of which is there, with the areas that they read: the ears are
