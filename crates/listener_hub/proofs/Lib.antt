@@ -1,6 +1,7 @@
 pub mod Changes
 pub mod Exact
 pub mod Goings
+pub mod Joins
 pub mod Linked
 pub mod PartSteps
 pub mod Parts

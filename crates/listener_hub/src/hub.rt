@@ -10,10 +10,12 @@ ghost use Rattle.listener_hub.specs.Moves.{IsMoved, KeepsAll, deletion, insertio
 ghost use Rattle.listener_hub.specs.Slab.{areas_at, areas_of, is_in, steps_of};
 
 use crate::cuts::{remove_run, split_at};
+use crate::joining::put_joined;
 use crate::parting::push_parts;
 use crate::readers::{push_reached, push_readers, push_reads};
+use crate::registration::registration_of;
 use crate::row_edits::move_rows;
-use crate::slab::{Slab, empty, put};
+use crate::slab::{Slab, empty};
 use calc_addr::{Area, Cell, NoMemory, Run};
 use calc_model::{Dependents, Ear, Part};
 use ears::{Change, RowEdit};
@@ -79,8 +81,9 @@ impl Hub {
     }
 
     /// Adds the cells of a run, none of which is there, with the areas that they read: the ears are
-    /// those of the run's first row. Linear in the ears and in the slots of what they read, which are at
-    /// most sixteen a column, however many rows the run has.
+    /// those of the run's first row. It is registered as one with the runs in front of it and behind it
+    /// that it goes on with. Linear in the ears, each of which takes the logarithm of the registrations,
+    /// however many rows there are.
     pub fn attach(&mut self, run: Run, ears: &[Ear]) -> Result<(), NoMemory>
         requires ready { self.old.spent ≡ false }
         requires absent { (q : Place) → is_in run q ≡ true → areas_read self.old q ≡ None }
@@ -95,8 +98,8 @@ impl Hub {
         settle(&mut self.slab, &mut self.spent, done)
     }
 
-    /// Takes away the cells of a run that are there. Linear in the registrations that stand in its slots,
-    /// and in what is registered anew of those that are cut.
+    /// Takes away the cells of a run that are there. Linear in the registrations that have some of them,
+    /// and in what is registered anew of those that are cut, each in the logarithm of all.
     pub fn detach(&mut self, run: Run) -> Result<(), NoMemory>
         requires { self.old.spent ≡ false }
         ensures areas { OnOk result ((q : Place) → areas_read self.new q
@@ -128,8 +131,9 @@ impl Hub {
     }
 
     /// Moves every cell with its row, and every area on the sheet with its rows, when `count` rows are
-    /// inserted at the row `place`. No formula cell may be pushed past the last row. Linear in what is
-    /// registered, whatever the rows.
+    /// inserted at the row `place`. No formula cell may be pushed past the last row. What is one run again
+    /// afterwards is registered as one. Linear in what is registered, each registration in the logarithm of
+    /// all, whatever the rows.
     pub fn insert_rows(&mut self, sheet: u8, place: u32, count: u32) -> Result<(), NoMemory>
         requires ready { self.old.spent ≡ false }
         requires edit { IsRowEdit (insertion sheet place count) }
@@ -196,13 +200,14 @@ impl Dependents for Hub {
     ghost ready = { is_ready };
 
     /// Appends each formula cell that reads a cell of the area, once, in the order of cells. Linear in the
-    /// registrations that are told of the slots of the area, and in the cells that are appended.
+    /// registrations that are looked at, as `AreaListeners::meeting` says, and in the cells that are
+    /// appended.
     fn readers(&self, area: Area, out: &mut Vec<Cell>) -> Result<(), NoMemory> {
         push_readers(&self.slab, &area, out)
     }
 
     /// Appends the areas that the cell reads, in the order in which its ears were given. Linear in them,
-    /// and in the registrations that stand in the cell's slots.
+    /// and in the registrations of its column that are looked at.
     fn reads(&self, cell: Cell, out: &mut Vec<Area>) -> Result<(), NoMemory> {
         push_reads(&self.slab, &cell, out)
     }
@@ -213,8 +218,8 @@ impl Dependents for Hub {
         push_reached(&self.slab, &area, out)
     }
 
-    /// Appends the parts of the run, one for each registration. Linear in the registrations that stand in
-    /// its slots, which are sorted, and in their ears.
+    /// Appends the parts of the run, one for each registration. Linear in the registrations of the column
+    /// that are looked at, of which those with rows of it are sorted, and in their ears.
     fn parts(&self, run: Run, parts: &mut Vec<Part>, ears: &mut Vec<Ear>) -> Result<(), NoMemory> {
         push_parts(&self.slab, &run, parts, ears)
     }
@@ -247,6 +252,6 @@ fn attach_in(slab: &mut Slab, run: &Run, ears: &[Ear]) -> Result<(), NoMemory>
         else areas_of slab.old.registrations.items q)) }
 {
     let ears = Vec::from_slice(slab.alloc, ears)?;
-    put(slab, run, ears)?;
+    put_joined(slab, registration_of(run, ears))?;
     Ok(())
 }

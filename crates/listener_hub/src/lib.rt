@@ -3,6 +3,7 @@
 
 mod cuts;
 mod hub;
+mod joining;
 mod listening;
 mod parting;
 mod readers;

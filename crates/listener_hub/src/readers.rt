@@ -148,7 +148,11 @@ fn has_cell(registrations: &[Option<Registration>], place: usize, cell: &Cell) -
 }
 
 /// The first of the places whose registration has the cell.
-fn place_of(registrations: &[Option<Registration>], places: &[usize], cell: &Cell) -> Option<usize>
+pub(crate) fn place_of(
+    registrations: &[Option<Registration>],
+    places: &[usize],
+    cell: &Cell,
+) -> Option<usize>
     ensures found { IfSome result (λ i. has_cell (at registrations.now i) cell.now ≡ true) }
     ensures none { IfNone result
         (list_any (λ i. has_cell (at registrations.now i) cell.now) places.now ≡ false) }
