@@ -29,7 +29,7 @@ no_hit : (run : Rows) (area : Rectangle) (q : Place) → is_in run q ≡ false �
 no_hit run area q out [] = refl
 no_hit run area q out (e ∷ es) = ap (λ b. (b && meets (area_at e (q.row - run.first)) area) || list_any (is_hit run area q) es) out ∙ no_hit run area q out es
 
-hit_has : (o : Option Registration) (area : Rectangle) (q : Place) → hits_at o area q ≡ true → has_cell o q ≡ true
+pub hit_has : (o : Option Registration) (area : Rectangle) (q : Place) → hits_at o area q ≡ true → has_cell o q ≡ true
 hit_has None area q h = h
 hit_has (Some r) area q h =
     ⊎_elim (λ (e : is_in r.run q ≡ true). e) (λ (e : is_in r.run q ≡ false). absurd (false≢true (sym (no_hit r.run area q e r.ears.items) ∙ h))) (cases_Bool (is_in r.run q))
@@ -72,6 +72,20 @@ row_below run q h =
     under : (f r l : ℕ) → f ≤ r → r ≤ l → r - f ≤ l - f
     under f r l h k = omega arith
 
+module _ (area : Rectangle) (valid : IsRectangle area) where
+  -- what a registered cell reads
+  pub stands_hit : (r : Registration) (q : Place) → is_in r.run q ≡ true → LiesInSheet (Some r) → list_any (λ a. list_any (covers a) (places area)) (areas_in r q) ≡ hits_at (Some r) area q
+  stands_hit r q has lies =
+      any_area (λ a. list_any (covers a) (places area)) (is_hit r.run area q) (q.row - r.run.first) r.ears.items (each r.ears.items lies.1)
+    where
+      each : (es : List ReadArea) → All (LieInSheet (steps_of r.run)) es → AllByRecursion (λ e. list_any (covers (area_at e (q.row - r.run.first))) (places area) ≡ is_hit r.run area q e) es
+      each [] h = tt
+      each (e ∷ es) h = (
+        meets-covers (area_at e (q.row - r.run.first)) area (inside_hull e (steps_of r.run) (q.row - r.run.first) (h 0 e (omega arith)) (row_below r.run q has)) valid
+            ∙ ap (λ b. b && meets (area_at e (q.row - r.run.first)) area) (sym has),
+        each es (λ k d below. h (suc k) d (omega arith)),
+      )
+
 module _ (rs : Registrations) (ears homes : Pairs) (slab : IsSlab rs ears homes) (area : Rectangle) (valid : IsRectangle area) (ids : List ℕ) (meeting : AreMeeting ears area ids) where
   -- a registration with a hit is one of those found
   hit_found : (i : ℕ) (o : Option Registration) (q : Place) → at rs i ≡ o → hits_at o area q ≡ true → has_id ids i ≡ true
@@ -85,26 +99,13 @@ module _ (rs : Registrations) (ears homes : Pairs) (slab : IsSlab rs ears homes)
       (slab.heard l ∙ ap (λ o. hears o l.area) is ∙ list_any-from_Any (λ x. is_same_area l.area (hull x (steps_of r.run))) r.ears.items (e.0, e.1, e.2, e.3, same_itself l.area))
       (hull_meets e.1 (steps_of r.run) (q.row - r.run.first) area (row_below r.run q parts.0) parts.1)
 
-  -- what a registered cell reads
-  stands_hit : (r : Registration) (q : Place) → is_in r.run q ≡ true → LiesInSheet (Some r) → list_any (λ a. list_any (covers a) (places area)) (areas_in r q) ≡ hits_at (Some r) area q
-  stands_hit r q has lies =
-      any_area (λ a. list_any (covers a) (places area)) (is_hit r.run area q) (q.row - r.run.first) r.ears.items (each r.ears.items lies.1)
-    where
-      each : (es : List ReadArea) → All (LieInSheet (steps_of r.run)) es → AllByRecursion (λ e. list_any (covers (area_at e (q.row - r.run.first))) (places area) ≡ is_hit r.run area q e) es
-      each [] h = tt
-      each (e ∷ es) h = (
-        meets-covers (area_at e (q.row - r.run.first)) area (inside_hull e (steps_of r.run) (q.row - r.run.first) (h 0 e (omega arith)) (row_below r.run q has)) valid
-            ∙ ap (λ b. b && meets (area_at e (q.row - r.run.first)) area) (sym has),
-        each es (λ k d below. h (suc k) d (omega arith)),
-      )
-
   pub exact : (q : Place) → any_hit rs area q ids ≡ reads_one_of (areas_of rs) area q
   exact q =
       ⊎_elim
       (λ (s : Stands rs q).
       both_ways (any_hit rs area q ids) (hits_at (at rs s.place) area q) (only s) (all s)
       ∙ ap (λ o. hits_at o area q) s.there
-      ∙ sym (stands_hit s.registration q s.has (subst LiesInSheet s.there (slab.inside s.place)))
+      ∙ sym (stands_hit area valid s.registration q s.has (subst LiesInSheet s.there (slab.inside s.place)))
       ∙ ap (λ o. list_any (λ a. list_any (covers a) (places area)) (listed o)) (sym s.reads))
       (λ (l : Lacks rs q).
       none l ids ∙ ap (λ o. list_any (λ a. list_any (covers a) (places area)) (listed o)) (sym l.reads))

@@ -6,6 +6,7 @@
 -- Known: a hub, as contracts see it.
 -- Moves: what becomes of cells and areas in row edits.
 -- Parting: the parts of a run.
+-- Reaching: rows that reach an area through others of their run.
 -- Slab: registrations of runs by place, what their rows read, and who listens to it.
 pub mod Changes
 pub mod Cuts
@@ -15,4 +16,5 @@ pub mod Joining
 pub mod Known
 pub mod Moves
 pub mod Parting
+pub mod Reaching
 pub mod Slab

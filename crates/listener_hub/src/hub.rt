@@ -12,7 +12,8 @@ ghost use Rattle.listener_hub.specs.Slab.{areas_at, areas_of, is_in, steps_of};
 use crate::cuts::{remove_run, split_at};
 use crate::joining::put_joined;
 use crate::parting::push_parts;
-use crate::readers::{push_reached, push_readers, push_reads};
+use crate::reaching::push_reached;
+use crate::readers::{push_readers, push_reads};
 use crate::registration::registration_of;
 use crate::row_edits::move_rows;
 use crate::slab::{Slab, empty};
@@ -212,8 +213,9 @@ impl Dependents for Hub {
         push_reads(&self.slab, &cell, out)
     }
 
-    /// Appends the rows that read a cell of the area, as runs. Linear in the registrations that are told of
-    /// the slots of the area.
+    /// Appends the rows that read a cell of the area, as runs. In a run whose rows each read the one above
+    /// them all rows below are appended with the first one, and so upwards. Linear in the registrations
+    /// that are looked at, as `AreaListeners::meeting` says, whatever the rows.
     fn reached(&self, area: Area, out: &mut Vec<Run>) -> Result<(), NoMemory> {
         push_reached(&self.slab, &area, out)
     }

@@ -6,6 +6,7 @@ mod hub;
 mod joining;
 mod listening;
 mod parting;
+mod reaching;
 mod readers;
 mod registration;
 mod row_edits;
