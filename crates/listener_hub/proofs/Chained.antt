@@ -1,18 +1,17 @@
 -- Rows that reach an area through others of their run reach it by reading.
-use Rattle.std.proofs.Common.{◌≡◌, ℕ, zero, suc, ◌+◌, ◌-◌, ◌≤◌, ◌<◌, Bool, true, false, ◌&&◌, ◌||◌, nat_le, List, [], ◌∷◌, map, Some, refl, sym, ap, subst, ◌∙◌, ⊎_elim, ◌⊎◌, arith}
+use Rattle.std.proofs.Common.{◌≡◌, ℕ, zero, suc, ◌+◌, ◌-◌, ◌≤◌, Bool, true, ◌&&◌, ◌||◌, nat_le, List, [], ◌∷◌, map, Some, refl, sym, ap, subst, ◌∙◌, ⊎_elim, arith}
 use Rattle.std.specs.Prelude.{◌==◌}
 use Rattle.std.specs.List.{list_any}
-use Rattle.std.proofs.lemmas.Bool.{and_parts, eqb-true, eq-eqb, false≢true, leb-true, or_cases}
+use Rattle.std.proofs.lemmas.Bool.{and_parts, eqb-true, false≢true, leb-true, or_cases}
 use Rattle.std.proofs.lemmas.Bool.Decides.{nat_tests}
 use Rattle.calc_addr.specs.Places.{IsRectangle, Place, Rectangle, covers, places}
 use Rattle.calc_model.specs.Ears.{ReadArea, area_at}
-use Rattle.calc_model.specs.Listeners.{ReachesArea, ReadAreas, listed, reads_one_of}
+use Rattle.calc_model.specs.Listeners.{ReachesArea, listed}
 use Rattle.ears.specs.Chains.{reads_above, reads_below}
 use Rattle.ears.proofs.GoingOn.{goes_above, goes_below}
 use Rattle.run_unions.proofs.Emitting.{or_right}
 use Rattle.listener_hub.specs.declared.registration.Registration.{Registration}
-use Rattle.listener_hub.specs.Cuts.{areas_in}
-use Rattle.listener_hub.specs.Hits.{hits_at, is_hit}
+use Rattle.listener_hub.specs.Hits.{is_hit}
 use Rattle.listener_hub.specs.Reaching.{IsStretch}
 use Rattle.listener_hub.specs.Slab.{AreApart, LiesInSheet, Registrations, areas_of, at, is_in}
 use Rattle.listener_hub.proofs.Exact.{hit_has, stands_hit}

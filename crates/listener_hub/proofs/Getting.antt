@@ -1,10 +1,9 @@
 -- Runs that got the cells of one set after another.
-use Rattle.std.proofs.Common.{◌≡◌, ◌⊎◌, ℕ, ◌+◌, ◌<◌, Bool, true, false, ◌||◌, List, [], ◌∷◌, length, get_or, take, inl, inr, refl, sym, ap, ◌∙◌, ⊎_elim}
+use Rattle.std.proofs.Common.{◌≡◌, ℕ, ◌+◌, ◌<◌, Bool, true, false, ◌||◌, List, length, get_or, take, inl, inr, refl, sym, ap, ◌∙◌, ⊎_elim}
 use Rattle.std.specs.List.{list_any}
 use Rattle.std.proofs.lemmas.Bool.{or_cases}
 use Rattle.std.proofs.lemmas.List.Folds.{list_any_more}
 use Rattle.calc_addr.specs.Places.{Place, Rows}
-use Rattle.calc_model.specs.Touched.{CellSet}
 use Rattle.run_unions.specs.Unions.{is_in}
 use Rattle.run_unions.proofs.Emitting.{or_right}
 use Rattle.listener_hub.specs.Reaching.{Get}

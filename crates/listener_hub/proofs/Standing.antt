@@ -15,7 +15,7 @@ use Rattle.listener_hub.specs.declared.registration.Registration.{Registration}
 use Rattle.listener_hub.specs.declared.cuts.Cut.{Cut}
 use Rattle.listener_hub.specs.Cuts.{AreCandidates, cut_of, is_cut}
 use Rattle.listener_hub.specs.Hits.{registered_areas}
-use Rattle.listener_hub.specs.Slab.{AreApart, IsSlab, LiesInSheet, Registrations, area_of, areas_of, at, has_cell, is_in, stands}
+use Rattle.listener_hub.specs.Slab.{AreApart, IsSlab, Registrations, area_of, areas_of, at, has_cell, is_in, stands}
 use Rattle.listener_hub.proofs.Places.{lacks_read, read_at}
 
 up_to : (row last : ℕ) → nat_lt row (last + 1) ≡ nat_le row last

@@ -1,8 +1,8 @@
 -- Rows of a run that were found, and those that they reach.
-use Rattle.std.proofs.Common.{◌≡◌, ◌⊎◌, ℕ, ◌+◌, ◌-◌, ◌≤◌, ◌<◌, Bool, true, false, cond, ◌&&◌, ◌||◌, nat_le, List, [], ◌∷◌, ◌++◌, length, get_or, min, inl, inr, refl, sym, ap, subst, ◌∙◌, ⊎_elim, arith}
+use Rattle.std.proofs.Common.{◌≡◌, ℕ, ◌+◌, ◌-◌, ◌≤◌, ◌<◌, Bool, true, false, cond, ◌&&◌, ◌||◌, nat_le, List, [], ◌∷◌, ◌++◌, length, get_or, min, inl, inr, refl, sym, ap, subst, ◌∙◌, ⊎_elim, arith}
 use Rattle.std.specs.Prelude.{◌==◌, Some}
 use Rattle.std.specs.List.{list_any}
-use Rattle.std.proofs.lemmas.Bool.{and_from, and_parts, cases_Bool, cases_lt, false≢true, leb-true, or_cases}
+use Rattle.std.proofs.lemmas.Bool.{and_from, and_parts, cases_lt, false≢true, leb-true, or_cases}
 use Rattle.std.proofs.lemmas.Bool.Decides.{nat_tests}
 use Rattle.std.proofs.lemmas.List.Folds.{list_any-append, list_any_at}
 use Rattle.calc_addr.specs.Places.{Place, Rectangle, Rows}
@@ -13,7 +13,7 @@ use Rattle.ears.specs.RunAreas.{has_step, meets}
 use Rattle.run_unions.specs.Unions as unions
 use Rattle.run_unions.proofs.Emitting.{or_right}
 use Rattle.listener_hub.specs.Hits.{is_hit}
-use Rattle.listener_hub.specs.Reaching.{Get, GetStretch, IsStretch, stretch}
+use Rattle.listener_hub.specs.Reaching.{GetStretch, IsStretch, stretch}
 use Rattle.listener_hub.specs.Slab.{is_in, steps_of}
 
 or_left : (a b : Bool) → a ≡ true → (a || b) ≡ true

@@ -1,5 +1,5 @@
 -- Runs that go on where others end.
-use Rattle.std.specs.Prelude.{◌≡◌, ℕ, true, ◌+◌, ◌-◌, List, ◌∷◌, map, Option, None, Some}
+use Rattle.std.specs.Prelude.{◌≡◌, true, ◌+◌, ◌-◌, ◌∷◌, map, Option, None, Some}
 use Rattle.calc_addr.specs.Places.{Place}
 use Rattle.ears.specs.RunAreas.{ear_below}
 use Rattle.listener_hub.specs.declared.registration.Registration.{Registration}

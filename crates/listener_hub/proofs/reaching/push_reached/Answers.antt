@@ -1,4 +1,4 @@
-use Rattle.std.proofs.Common.{◌++◌, List, ap, subst, ◌∙◌}
+use Rattle.std.proofs.Common.{◌++◌, List, ap, ◌∙◌}
 use Rattle.calc_addr.specs.Places.{Rows}
 use Rattle.listener_hub.proofs.reaching.push_reached.Goals as goal
 

@@ -1,4 +1,4 @@
-use Rattle.std.proofs.Common.{◌≤◌, min, sym, ap, subst, ◌++◌, ◌∷◌, [], List, ◌∙◌}
+use Rattle.std.proofs.Common.{◌≤◌, min, sym, ap, subst, ◌++◌, ◌∷◌, [], ◌∙◌}
 use Rattle.std.proofs.lemmas.List.{get_or_default}
 use Rattle.calc_addr.specs.Places.{Rows}
 use Rattle.calc_model.specs.Ears.{ReadArea, area_at}

@@ -1,5 +1,3 @@
-use Rattle.std.proofs.Common.{get_or}
-use Rattle.calc_model.specs.Ears.{ReadArea}
 use Rattle.listener_hub.specs.Hits.{is_hit}
 use Rattle.listener_hub.specs.Reaching.{IsStretch}
 use Rattle.listener_hub.proofs.Getting.{one_more}

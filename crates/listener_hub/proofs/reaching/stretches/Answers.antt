@@ -1,5 +1,4 @@
-use Rattle.std.proofs.Common.{List, ℕ, Bool, sym, ap, subst, ◌∙◌}
-use Rattle.std.specs.List.{list_any}
+use Rattle.std.proofs.Common.{List, ℕ, Bool, subst}
 use Rattle.calc_addr.specs.Places.{IsRectangle, Place, Rows}
 use Rattle.listener_hub.specs.Hits.{any_hit}
 use Rattle.listener_hub.specs.Reaching.{GetReached}
