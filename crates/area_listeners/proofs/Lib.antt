@@ -1,6 +1,10 @@
-pub mod Any
-pub mod KeptSlots
-pub mod Keys
-pub mod Lists
-pub mod Meeting
+mod Between
+mod Held
+mod Kept
+mod Levels
+mod Meeting
+mod Placed
 pub mod Same
+mod Steps
+pub mod Told
+mod Walks

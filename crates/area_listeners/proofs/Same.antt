@@ -1,6 +1,5 @@
 -- Listeners that are one are equal.
-use Rattle.std.proofs.Common.{◌≡◌, ℕ, Bool, true, false, cond, not, ◌&&◌, ◌||◌, List, [], ◌∷◌, refl, sym, ap, ◌∙◌, arith}
-use Rattle.std.specs.List.{filter, list_any}
+use Rattle.std.proofs.Common.{◌≡◌, ℕ, true, ap, ◌∙◌}
 use Rattle.std.proofs.lemmas.Bool.{and_parts, eqb-true}
 use Rattle.calc_addr.specs.Places.{Rectangle}
 use Rattle.ears.specs.RunAreas.{is_same_area}
@@ -25,21 +24,3 @@ same-eq a b same =
     let id : a.id ≡ b.id = eqb-true _ _ parts.0 in
     let area : a.area ≡ b.area = same_area-eq a.area b.area parts.1 in
     ap (λ x. record a { id = x }) id ∙ ap (λ x. record b { area = x }) area
-
-without_one : (b c d any : Bool) → (b ≡ true → c ≡ d) → cond (not c) (b || (any && not d)) (any && not d) ≡ ((b || any) && not d)
-without_one true true true any h = grind arith
-without_one true true false any h = cc (h refl)
-without_one true false true any h = cc (h refl)
-without_one true false false any h = refl
-without_one false true d any h = refl
-without_one false false d any h = refl
-
-pub any-without : (l h : Listener) (xs : List Listener) → list_any (is_same l) (filter (λ x. not (is_same x h)) xs) ≡ (list_any (is_same l) xs && not (is_same l h))
-any-without l h [] = refl
-any-without l h (x ∷ xs) =
-    let same : is_same l x ≡ true → is_same x h ≡ is_same l h = λ e. ap (λ y. is_same y h) (sym (same-eq l x e)) in
-    let rest = any-without l h xs in
-    elim (is_same x h) as (λ b. (is_same l x ≡ true → b ≡ is_same l h) → list_any (is_same l) (cond (not b) (x ∷ filter (λ y. not (is_same y h)) xs) (filter (λ y. not (is_same y h)) xs)) ≡ ((is_same l x || list_any (is_same l) xs) && not (is_same l h))) [
-      | true ↦ λ s. rest ∙ without_one (is_same l x) true (is_same l h) (list_any (is_same l) xs) s
-      | false ↦ λ s. ap (λ b. is_same l x || b) rest ∙ without_one (is_same l x) false (is_same l h) (list_any (is_same l) xs) s
-    ] same

@@ -1,75 +1,196 @@
-ghost use Rattle.std.specs.Prelude.{◌≡◌, ◌≤◌, ◌-◌, ◌||◌, nat_eq, ℕ, OnOk};
-ghost use Rattle.std.specs.List.{list_any};
-ghost use Rattle.calc_addr.specs.Places.{IsRectangle};
-ghost use Rattle.area_listeners.specs.Gathering.{any_in_keys, any_in_level, any_in_rows, is_told};
-ghost use Rattle.area_listeners.specs.Slots.{AreKeys, any_from};
+ghost use Rattle.std.specs.Prelude.{◌≡◌, ◌≤◌, ◌<◌, ◌&&◌, ◌||◌, ℕ, length, OnOk};
+ghost use Rattle.std.specs.List.{All, list_any};
+ghost use Rattle.area_listeners.specs.Pairs.{has_id};
+ghost use Rattle.area_listeners.specs.Spots.{IsInUse, IsPlaced, corner, is_between, is_met, is_met_in, window_of};
 
-use crate::listener::Listener;
-use crate::slots::{Keys, Slots, key_of, keys_at, slot};
-use calc_addr::{Area, NoMemory};
-use ears::meets;
+use crate::spot::{CLASSES, Spot, height, meets};
+use calc_addr::{Area, LAST_COL, NoMemory};
+use std::collections::BTreeSet;
 
-/// Appends the ids of the listeners whose areas meet an area.
-fn push_meeting(listeners: &[Listener], area: &Area, out: &mut Vec<usize>) -> Result<(), NoMemory>
-    ensures { OnOk result ((i : ℕ) → list_any (nat_eq i) out.new.items
-        ≡ (list_any (nat_eq i) out.old.items || list_any (is_told area.now i) listeners.now)) }
-{
-    for listener in listeners {
-        if meets(&listener.area, area) {
-            out.push(listener.id)?;
-        }
-    }
-    Ok(())
-}
+/// Listeners by where they stand.
+pub(crate) type Spots = BTreeSet<Spot>;
 
-/// Appends those of the slots from `first` to before `end` of a column.
-fn gather_rows(
-    slots: &Slots,
-    level: u32,
-    column: u32,
+/// To look for the first listener of a column costs about as much as to go over so many.
+const COLUMN_COST: usize = 16;
+
+/// Where the areas of a class can stand that have a cell of an area: in the columns from `left` to
+/// `right`, and there in the rows from `first` to before `end`.
+#[derive(Clone, Copy, Debug)]
+struct Window {
+    class: u32,
+    sheet: u8,
+    left: u16,
+    right: u16,
     first: u32,
     end: u32,
-    area: &Area,
-    out: &mut Vec<usize>,
-) -> Result<(), NoMemory>
-    requires { first ≤ end }
-    ensures { OnOk result ((i : ℕ) → list_any (nat_eq i) out.new.items
-        ≡ (list_any (nat_eq i) out.old.items
-        || any_in_rows slots.now area.now i level first (end - first) column)) }
+}
+
+fn window_of(class: u32, area: &Area) -> Window
+    requires { class < CLASSES }
+    ensures window { result ≡ window_of class area.now }
+    ensures columns { result.left ≤ result.right }
+    ensures rows { result.first ≤ result.end }
+    ensures right { result.right ≤ LAST_COL }
 {
-    for at in first..end {
-        push_meeting(slot(slots, key_of(level, column, at)), area, out)?;
+    let first = (area.first_row + 1).saturating_sub(height(class / 2));
+    let end = area.last_row + 1;
+    let (left, right) = if class % 2 == 0 {
+        (area.first_col, area.last_col)
+    } else {
+        (0, 0)
+    };
+    Window {
+        class,
+        sheet: area.sheet,
+        left,
+        right,
+        first,
+        end,
+    }
+}
+
+/// In front of all listeners that stand in a row of a column.
+fn corner(window: &Window, column: u16, row: u32) -> Spot
+    ensures { result ≡ corner window.now column row }
+{
+    Spot {
+        class: window.class,
+        sheet: window.sheet,
+        column,
+        first_row: row,
+        last_row: 0,
+        first_col: 0,
+        last_col: 0,
+        id: 0,
+    }
+}
+
+/// Appends the id of a listener if its area has a cell of an area.
+fn push_met(spot: &Spot, area: &Area, out: &mut Vec<usize>) -> Result<(), NoMemory>
+    ensures { OnOk result ((i : ℕ) → has_id out.new.items i
+        ≡ (has_id out.old.items i || is_met area.now i spot.now)) }
+{
+    if meets(spot, area) {
+        out.push(spot.id)?;
     }
     Ok(())
 }
 
-/// Appends those of slots of a level.
-fn gather_keys(
-    slots: &Slots,
-    keys: &Keys,
+/// Appends the ids of the listeners in the columns from `left` to `right` whose areas have a cell of an
+/// area, some of them more than once.
+fn push_columns(
+    spots: &Spots,
+    window: &Window,
+    left: u16,
+    right: u16,
     area: &Area,
     out: &mut Vec<usize>,
 ) -> Result<(), NoMemory>
-    requires { AreKeys keys.now }
-    ensures { OnOk result ((i : ℕ) → list_any (nat_eq i) out.new.items
-        ≡ (list_any (nat_eq i) out.old.items || any_in_keys slots.now area.now i keys.now)) }
+    requires columns { left ≤ right }
+    requires rows { window.now.first ≤ window.now.end }
+    ensures { OnOk result ((i : ℕ) → has_id out.new.items i ≡ (has_id out.old.items i
+        || list_any (λ s. is_between window.now left right s && is_met area.now i s) spots.now.keys)) }
 {
-    for column in keys.left..keys.right {
-        gather_rows(slots, keys.level, column, keys.first, keys.end, area, out)?;
+    let low = corner(window, left, window.first);
+    let high = corner(window, right, window.end);
+    for spot in spots.range(low..high) {
+        push_met(spot, area, out)?;
     }
     Ok(())
 }
 
-/// Appends the ids of all listeners whose areas meet an area, some of them more than once.
-pub(crate) fn gather(slots: &Slots, area: &Area, out: &mut Vec<usize>) -> Result<(), NoMemory>
-    ensures found { OnOk result ((i : ℕ) → list_any (nat_eq i) out.new.items
-        ≡ (list_any (nat_eq i) out.old.items
-        || any_from (any_in_level slots.now area.now i) 0 4)) }
-    ensures valid { IsRectangle area.now }
+/// The same of all columns of a window, one after the other.
+fn push_each_column(
+    spots: &Spots,
+    window: &Window,
+    area: &Area,
+    out: &mut Vec<usize>,
+) -> Result<(), NoMemory>
+    requires placed { All IsPlaced spots.now.keys }
+    requires window { window.now ≡ window_of window.now.class area.now }
+    requires rows { window.now.first ≤ window.now.end }
+    requires columns { window.now.left ≤ window.now.right }
+    requires right { window.now.right ≤ LAST_COL }
+    ensures { OnOk result ((i : ℕ) → has_id out.new.items i ≡ (has_id out.old.items i
+        || list_any (is_met_in window.now.class area.now i) spots.now.keys)) }
 {
-    let _ = &area.sheet;
-    for level in 0..4 {
-        gather_keys(slots, &keys_at(level, area), area, out)?;
+    for column in window.left..window.right + 1 {
+        push_columns(spots, window, column, column, area, out)?;
+    }
+    Ok(())
+}
+
+/// The same at one go.
+fn push_window(
+    spots: &Spots,
+    window: &Window,
+    area: &Area,
+    out: &mut Vec<usize>,
+) -> Result<(), NoMemory>
+    requires placed { All IsPlaced spots.now.keys }
+    requires window { window.now ≡ window_of window.now.class area.now }
+    requires rows { window.now.first ≤ window.now.end }
+    requires columns { window.now.left ≤ window.now.right }
+    ensures { OnOk result ((i : ℕ) → has_id out.new.items i ≡ (has_id out.old.items i
+        || list_any (is_met_in window.now.class area.now i) spots.now.keys)) }
+{
+    push_columns(spots, window, window.left, window.right, area, out)?;
+    Ok(())
+}
+
+/// Appends the ids of the listeners of a class whose areas have a cell of an area, some of them more than
+/// once.
+fn push_class(spots: &Spots, class: u32, area: &Area, out: &mut Vec<usize>) -> Result<(), NoMemory>
+    requires placed { All IsPlaced spots.now.keys }
+    requires class { class < CLASSES }
+    ensures { OnOk result ((i : ℕ) → has_id out.new.items i ≡ (has_id out.old.items i
+        || list_any (is_met_in class area.now i) spots.now.keys)) }
+{
+    let window = window_of(class, area);
+    let more = usize::from(window.right - window.left);
+    if more == 0 || more >= spots.len() / COLUMN_COST {
+        push_window(spots, &window, area, out)
+    } else {
+        push_each_column(spots, &window, area, out)
+    }
+}
+
+/// The same of a class that may not be in use.
+fn push_if_used(
+    spots: &Spots,
+    used: &[bool],
+    class: usize,
+    area: &Area,
+    out: &mut Vec<usize>,
+) -> Result<(), NoMemory>
+    requires placed { All IsPlaced spots.now.keys }
+    requires in_use { All (IsInUse used.now) spots.now.keys }
+    requires classes { length used.now ≡ CLASSES }
+    requires class { class < CLASSES }
+    ensures { OnOk result ((i : ℕ) → has_id out.new.items i ≡ (has_id out.old.items i
+        || list_any (is_met_in class area.now i) spots.now.keys)) }
+{
+    if used[class] {
+        push_class(spots, class as u32, area, out)?;
+    }
+    Ok(())
+}
+
+/// Appends the ids of all listeners whose areas have a cell of an area, some of them more than once.
+pub(crate) fn push_all(
+    spots: &Spots,
+    used: &[bool],
+    area: &Area,
+    out: &mut Vec<usize>,
+) -> Result<(), NoMemory>
+    requires placed { All IsPlaced spots.now.keys }
+    requires in_use { All (IsInUse used.now) spots.now.keys }
+    requires classes { length used.now ≡ CLASSES }
+    ensures { OnOk result ((i : ℕ) → has_id out.new.items i ≡ (has_id out.old.items i
+        || list_any (is_met area.now i) spots.now.keys)) }
+{
+    for class in 0..CLASSES {
+        push_if_used(spots, used, class, area, out)?;
     }
     Ok(())
 }

@@ -4,7 +4,7 @@
 mod gathering;
 mod listener;
 mod listeners;
-mod slots;
+mod spot;
 
 pub use listener::Listener;
 pub use listeners::AreaListeners;

@@ -1,115 +1,90 @@
-ghost use Rattle.std.specs.Prelude.{◌≡◌, ◌&&◌, ◌||◌, false, true, not, nat_eq, ℕ, OnOk, OnErr, IfOk};
-ghost use Rattle.area_listeners.specs.Kept.{IsKept};
-ghost use Rattle.area_listeners.specs.Listening.{AreMeeting, holds, lists_of};
-ghost use Rattle.area_listeners.specs.Pairs.{is_same};
+ghost use Rattle.std.specs.Prelude.{◌≡◌, ◌&&◌, ◌||◌, not, [], length, OnOk, OnErr, IfOk};
+ghost use Rattle.area_listeners.specs.Pairs.{AreMeeting, holds, is_same};
 
-use crate::gathering::gather;
+use crate::gathering::{Spots, push_all};
 use crate::listener::Listener;
-use crate::slots::{Slots, erase_all, own_keys, put_all};
+use crate::spot::{CLASSES, spot_of};
 use calc_addr::{Area, NoMemory};
 use std::alloc::Global;
-use std::collections::HashMap;
+use std::collections::BTreeSet;
 use std::marker::Model;
 
-/// Pairs of an area and an id, each once. Contracts see which pairs there are.
+/// Pairs of an area and an id, each once, which contracts see as a list.
 ///
-/// A pair stands in slots of 256, 4,096, 65,536 or 1,048,576 rows of one column, in at most sixteen of
-/// them a column.
+/// A pair is kept once, however large its area: in the class of areas of about as many rows, by the column
+/// and the first row. An area in several columns is kept by its first row alone.
 #[derive(Drop)]
 pub struct AreaListeners {
     alloc: Global,
-    slots: Slots,
+    spots: Spots,
+    /// The classes that a pair was added to.
+    used: [bool; CLASSES],
 }
 
 impl Model for AreaListeners {
-    ghost use Rattle.area_listeners.specs.Listening.{SlotLists, lists_of};
-    ghost use Rattle.area_listeners.specs.Kept.{IsKept};
+    ghost use Rattle.std.specs.Prelude.{map};
+    ghost use Rattle.std.specs.List.{All};
+    ghost use Rattle.area_listeners.specs.Pairs.{Pairs};
+    ghost use Rattle.area_listeners.specs.Spots.{IsInUse, IsPlaced, listener_of};
 
-    ghost Value = { SlotLists };
+    ghost Value = { Pairs };
 
-    ghost view = { λ l. lists_of l.slots };
+    ghost view = { λ l. map listener_of l.spots.keys };
 
-    ghost invariant = { λ l. IsKept l.slots };
+    ghost invariant = { λ l. All IsPlaced l.spots.keys × All (IsInUse l.used) l.spots.keys };
 }
 
 impl AreaListeners {
     /// No pair, which takes no memory.
     pub fn new(alloc: Global) -> AreaListeners
-        ensures { (l : Listener) → holds result l ≡ false }
+        ensures { result ≡ [] }
     {
         AreaListeners {
             alloc,
-            slots: HashMap::new(alloc),
+            spots: BTreeSet::new(alloc),
+            used: [false; CLASSES],
         }
     }
 
-    /// Takes all pairs away.
-    pub fn clear(&mut self)
-        ensures { (l : Listener) → holds self.new l ≡ false }
+    /// How many pairs there are.
+    pub fn len(&self) -> usize
+        ensures { result ≡ length self.now }
     {
-        self.slots = HashMap::new(self.alloc);
+        self.spots.len()
     }
 
-    /// Adds a pair. Linear in the slots of its area. Where memory is refused, there is no pair any more.
+    /// Adds a pair. Logarithmic in the pairs. Where memory is refused, the pairs stay.
     pub fn add(&mut self, listener: &Listener) -> Result<(), NoMemory>
         ensures ok { OnOk result ((l : Listener) → holds self.new l
             ≡ (holds self.old l || is_same l listener.now)) }
-        ensures err { OnErr result ((l : Listener) → holds self.new l ≡ false) }
+        ensures err { OnErr result ((l : Listener) → holds self.new l ≡ holds self.old l) }
     {
-        match add_in(&mut self.slots, listener) {
-            Ok(()) => Ok(()),
-            Err(fault) => {
-                self.slots = HashMap::new(self.alloc);
-                Err(fault)
-            }
-        }
+        let spot = spot_of(listener);
+        self.used[spot.class as usize] = true;
+        self.spots.insert(spot)?;
+        Ok(())
     }
 
-    /// Takes a pair away. Linear in the listeners that stand in its area's slots.
+    /// Takes a pair away. Logarithmic in the pairs.
     pub fn remove(&mut self, listener: &Listener)
         ensures { (l : Listener) → holds self.new l
             ≡ (holds self.old l && not (is_same l listener.now)) }
     {
-        remove_in(&mut self.slots, listener);
+        self.spots.remove(&spot_of(listener));
     }
 
-    /// The ids of the pairs whose areas have a cell of an area, each once and rising. Linear in the slots
-    /// of the area and in the listeners that stand in them, which are sorted.
+    /// The ids of the pairs whose areas have a cell of an area, each once and rising.
+    ///
+    /// Where all areas are of one cell, it is linear in the ids, beside a search in each column of the area.
+    /// Of areas of more rows those are looked at, too, that end above it by at most three times their rows,
+    /// and of areas in several columns those beside it. No more pairs are ever looked at than there are.
     pub fn meeting(&self, area: &Area) -> Result<Vec<usize>, NoMemory>
         ensures { IfOk result (λ ids. AreMeeting self.now area.now ids.items) }
     {
-        meeting_in(self.alloc, &self.slots, area)
+        let mut ids = Vec::new(self.alloc);
+        push_all(&self.spots, &self.used, area, &mut ids)?;
+        ids.sort_unstable();
+        ids.dedup();
+        Ok(ids)
     }
-}
-
-fn add_in(slots: &mut Slots, listener: &Listener) -> Result<(), NoMemory>
-    requires { IsKept slots.old }
-    ensures kept { OnOk result (IsKept slots.new) }
-    ensures held { OnOk result ((l : Listener) → holds (lists_of slots.new) l
-        ≡ (holds (lists_of slots.old) l || is_same l listener.now)) }
-{
-    let keys = own_keys(&listener.area);
-    put_all(slots, &keys, listener)?;
-    Ok(())
-}
-
-fn remove_in(slots: &mut Slots, listener: &Listener)
-    requires { IsKept slots.old }
-    ensures kept { IsKept slots.new }
-    ensures held { (l : Listener) → holds (lists_of slots.new) l
-        ≡ (holds (lists_of slots.old) l && not (is_same l listener.now)) }
-{
-    let keys = own_keys(&listener.area);
-    erase_all(slots, &keys, listener);
-}
-
-fn meeting_in(alloc: Global, slots: &Slots, area: &Area) -> Result<Vec<usize>, NoMemory>
-    requires { IsKept slots.now }
-    ensures { IfOk result (λ ids. AreMeeting (lists_of slots.now) area.now ids.items) }
-{
-    let mut ids = Vec::new(alloc);
-    gather(slots, area, &mut ids)?;
-    ids.sort_unstable();
-    ids.dedup();
-    Ok(ids)
 }

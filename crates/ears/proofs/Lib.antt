@@ -1,3 +1,5 @@
+pub mod Below
+pub mod GoingOn
 pub mod Meetings
 pub mod Together
 pub mod RunsMoved

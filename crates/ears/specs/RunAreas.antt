@@ -1,5 +1,6 @@
 -- The areas that the rows of a run read by one reference, and which of them meet an area.
 use Rattle.std.specs.Prelude.{ℕ, Bool, false, ◌&&◌, ◌==◌, nat_le, Option, None, Some}
+use Rattle.std.specs.Bool.{beq}
 use Rattle.calc_addr.specs.Places.{Rectangle, IsRectangle}
 use Rattle.calc_model.specs.Ears.{ReadArea, area_at, end_at}
 use Rattle.ears.specs.declared.run_areas.Steps.{Steps}
@@ -30,6 +31,16 @@ hull ear steps = record ear.area { last_row = end_at ear.last_moves ear.area.las
 -- the ear of the rows from the one on that lies so many rows below the first one
 abbrev pub ear_below : ReadArea → ℕ → ReadArea
 ear_below ear steps = record ear { area = area_at ear steps }
+
+-- whether the ear is that of the rows from the one on that lies so many rows below the first one of the other
+abbrev pub is_below : ReadArea → ReadArea → ℕ → Bool
+is_below next ear step =
+    beq next.first_moves ear.first_moves
+    && beq next.last_moves ear.last_moves
+    && (next.area.sheet == ear.area.sheet)
+    && ((next.area.first_col == ear.area.first_col) && (next.area.last_col == ear.area.last_col))
+    && (next.area.first_row == end_at ear.first_moves ear.area.first_row step)
+    && (next.area.last_row == end_at ear.last_moves ear.area.last_row step)
 
 -- whether the row so many rows below the first one is one of these, if any
 abbrev pub has_step : Option Steps → ℕ → Bool

@@ -2,7 +2,7 @@ ghost use Rattle.std.specs.Prelude.{◌≡◌, ◌≤◌, ℕ};
 ghost use Rattle.calc_addr.specs.Places.{IsRectangle};
 ghost use Rattle.calc_addr.specs.declared.cell.TheConstants.{LAST_ROW};
 ghost use Rattle.calc_model.specs.Ears.{area_at, end_at};
-ghost use Rattle.ears.specs.RunAreas.{LieInSheet, ear_below, has_step, hull, is_same_area, meets};
+ghost use Rattle.ears.specs.RunAreas.{LieInSheet, ear_below, has_step, hull, is_below, is_same_area, meets};
 
 use calc_addr::Area;
 use calc_model::Ear;
@@ -110,4 +110,28 @@ pub fn steps_meeting(ear: &Ear, steps: u32, area: &Area) -> Option<Steps>
         steps
     };
     Some(Steps { first, last })
+}
+
+/// The row of an end, so many rows below the first one of the run, which may lie below the sheet.
+fn end_below(moves: bool, row: u32, step: u32) -> u32
+    requires row { row ≤ LAST_ROW }
+    requires step { step ≤ LAST_ROW }
+    ensures { result ≡ end_at moves row step }
+{
+    if moves { row + step } else { row }
+}
+
+/// Whether an ear is that of the rows from the one on that lies so many rows below the first one of the
+/// run of another ear.
+pub fn is_below(next: &Ear, ear: &Ear, step: u32) -> bool
+    requires { step ≤ LAST_ROW }
+    ensures { result ≡ is_below next.now ear.now step }
+{
+    let (read, area) = (&next.area, &ear.area);
+    next.first_moves == ear.first_moves
+        && next.last_moves == ear.last_moves
+        && (read.sheet == area.sheet)
+        && (read.first_col == area.first_col && read.last_col == area.last_col)
+        && read.first_row == end_below(ear.first_moves, area.first_row, step)
+        && read.last_row == end_below(ear.last_moves, area.last_row, step)
 }

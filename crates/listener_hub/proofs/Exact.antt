@@ -10,7 +10,8 @@ use Rattle.calc_model.specs.Listeners.{listed, reads_one_of}
 use Rattle.ears.specs.RunAreas.{LieInSheet, hull, is_same_area, meets}
 use Rattle.ears.proofs.Meetings.{both_ways, inside_hull, meets-covers}
 use Rattle.area_listeners.specs.declared.listener.Listener.{Listener}
-use Rattle.area_listeners.specs.Listening.{AreMeeting, SlotLists, has_id}
+use Rattle.area_listeners.proofs.Told.{is_among}
+use Rattle.area_listeners.specs.Pairs.{AreMeeting, Pairs, has_id}
 use Rattle.listener_hub.specs.declared.registration.Registration.{Registration}
 use Rattle.listener_hub.specs.Cuts.{areas_in}
 use Rattle.listener_hub.specs.Hits.{any_hit, hits_at, is_hit}
@@ -28,7 +29,7 @@ no_hit : (run : Rows) (area : Rectangle) (q : Place) → is_in run q ≡ false �
 no_hit run area q out [] = refl
 no_hit run area q out (e ∷ es) = ap (λ b. (b && meets (area_at e (q.row - run.first)) area) || list_any (is_hit run area q) es) out ∙ no_hit run area q out es
 
-hit_has : (o : Option Registration) (area : Rectangle) (q : Place) → hits_at o area q ≡ true → has_cell o q ≡ true
+pub hit_has : (o : Option Registration) (area : Rectangle) (q : Place) → hits_at o area q ≡ true → has_cell o q ≡ true
 hit_has None area q h = h
 hit_has (Some r) area q h =
     ⊎_elim (λ (e : is_in r.run q ≡ true). e) (λ (e : is_in r.run q ≡ false). absurd (false≢true (sym (no_hit r.run area q e r.ears.items) ∙ h))) (cases_Bool (is_in r.run q))
@@ -71,21 +72,9 @@ row_below run q h =
     under : (f r l : ℕ) → f ≤ r → r ≤ l → r - f ≤ l - f
     under f r l h k = omega arith
 
-module _ (rs : Registrations) (ears homes : SlotLists) (slab : IsSlab rs ears homes) (area : Rectangle) (valid : IsRectangle area) (ids : List ℕ) (meeting : AreMeeting ears area ids) where
-  -- a registration with a hit is one of those found
-  hit_found : (i : ℕ) (o : Option Registration) (q : Place) → at rs i ≡ o → hits_at o area q ≡ true → has_id ids i ≡ true
-  hit_found i None q is h = absurd (false≢true h)
-  hit_found i (Some r) q is h =
-      let e = Any-from_list_any (is_hit r.run area q) r.ears.items h in
-      let parts = and_parts (is_in r.run q) (meets (area_at e.1 (q.row - r.run.first)) area) e.4 in
-      let lies : LieInSheet (steps_of r.run) e.1 = subst (LieInSheet (steps_of r.run)) e.3 ((subst LiesInSheet is (slab.inside i)).1 e.0 e.1 e.2) in
-      let l : Listener = record { area = hull e.1 (steps_of r.run); id = i } in
-      meeting.all l (hull_valid e.1 (steps_of r.run) lies)
-      (slab.heard l ∙ ap (λ o. hears o l.area) is ∙ list_any-from_Any (λ x. is_same_area l.area (hull x (steps_of r.run))) r.ears.items (e.0, e.1, e.2, e.3, same_itself l.area))
-      (hull_meets e.1 (steps_of r.run) (q.row - r.run.first) area (row_below r.run q parts.0) parts.1)
-
+module _ (area : Rectangle) (valid : IsRectangle area) where
   -- what a registered cell reads
-  stands_hit : (r : Registration) (q : Place) → is_in r.run q ≡ true → LiesInSheet (Some r) → list_any (λ a. list_any (covers a) (places area)) (areas_in r q) ≡ hits_at (Some r) area q
+  pub stands_hit : (r : Registration) (q : Place) → is_in r.run q ≡ true → LiesInSheet (Some r) → list_any (λ a. list_any (covers a) (places area)) (areas_in r q) ≡ hits_at (Some r) area q
   stands_hit r q has lies =
       any_area (λ a. list_any (covers a) (places area)) (is_hit r.run area q) (q.row - r.run.first) r.ears.items (each r.ears.items lies.1)
     where
@@ -97,13 +86,26 @@ module _ (rs : Registrations) (ears homes : SlotLists) (slab : IsSlab rs ears ho
         each es (λ k d below. h (suc k) d (omega arith)),
       )
 
+module _ (rs : Registrations) (ears homes : Pairs) (slab : IsSlab rs ears homes) (area : Rectangle) (valid : IsRectangle area) (ids : List ℕ) (meeting : AreMeeting ears area ids) where
+  -- a registration with a hit is one of those found
+  hit_found : (i : ℕ) (o : Option Registration) (q : Place) → at rs i ≡ o → hits_at o area q ≡ true → has_id ids i ≡ true
+  hit_found i None q is h = absurd (false≢true h)
+  hit_found i (Some r) q is h =
+      let e = Any-from_list_any (is_hit r.run area q) r.ears.items h in
+      let parts = and_parts (is_in r.run q) (meets (area_at e.1 (q.row - r.run.first)) area) e.4 in
+      let lies : LieInSheet (steps_of r.run) e.1 = subst (LieInSheet (steps_of r.run)) e.3 ((subst LiesInSheet is (slab.inside i)).1 e.0 e.1 e.2) in
+      let l : Listener = record { area = hull e.1 (steps_of r.run); id = i } in
+      is_among ears area ids meeting l
+      (slab.heard l ∙ ap (λ o. hears o l.area) is ∙ list_any-from_Any (λ x. is_same_area l.area (hull x (steps_of r.run))) r.ears.items (e.0, e.1, e.2, e.3, same_itself l.area))
+      (hull_meets e.1 (steps_of r.run) (q.row - r.run.first) area (row_below r.run q parts.0) parts.1)
+
   pub exact : (q : Place) → any_hit rs area q ids ≡ reads_one_of (areas_of rs) area q
   exact q =
       ⊎_elim
       (λ (s : Stands rs q).
       both_ways (any_hit rs area q ids) (hits_at (at rs s.place) area q) (only s) (all s)
       ∙ ap (λ o. hits_at o area q) s.there
-      ∙ sym (stands_hit s.registration q s.has (subst LiesInSheet s.there (slab.inside s.place)))
+      ∙ sym (stands_hit area valid s.registration q s.has (subst LiesInSheet s.there (slab.inside s.place)))
       ∙ ap (λ o. list_any (λ a. list_any (covers a) (places area)) (listed o)) (sym s.reads))
       (λ (l : Lacks rs q).
       none l ids ∙ ap (λ o. list_any (λ a. list_any (covers a) (places area)) (listed o)) (sym l.reads))

@@ -1,6 +1,9 @@
+pub mod Chained
 pub mod Changes
 pub mod Exact
+pub mod Getting
 pub mod Goings
+pub mod Joins
 pub mod Linked
 pub mod PartSteps
 pub mod Parts
@@ -10,6 +13,7 @@ pub mod Prefixes
 pub mod Reached
 pub mod Rests
 pub mod Standing
+pub mod Stretches
 pub mod Trimming
 pub mod Trims
 pub mod Wholes

@@ -6,7 +6,7 @@ use Rattle.std.proofs.lemmas.Bool.{ne_eqb}
 use Rattle.calc_addr.specs.Places.{IsRows, Place, Rectangle}
 use Rattle.ears.specs.RunAreas.{LieInSheet}
 use Rattle.area_listeners.specs.declared.listener.Listener.{Listener}
-use Rattle.area_listeners.specs.Listening.{SlotLists, holds}
+use Rattle.area_listeners.specs.Pairs.{Pairs, holds}
 use Rattle.area_listeners.specs.Pairs.{is_same}
 use Rattle.listener_hub.specs.declared.registration.Registration.{Registration}
 use Rattle.listener_hub.specs.Slab.{IsSlab, LiesInSheet, Registrations, area_of, areas_of, at, hears, is_heard, is_in, stands, steps_of}
@@ -25,10 +25,10 @@ not_both true = refl
 not_both false = refl
 
 -- each listener is one of the registration at its place
-abbrev pub Links : (Option Registration → Rectangle → Bool) → Registrations → SlotLists → Type 0
+abbrev pub Links : (Option Registration → Rectangle → Bool) → Registrations → Pairs → Type 0
 Links f rs lists = (l : Listener) → holds lists l ≡ f (at rs l.id) l.area
 
-module _ (f : Option Registration → Rectangle → Bool) (none : (a : Rectangle) → f None a ≡ false) (rs new : Registrations) (p : ℕ) (r : Registration) (old now : SlotLists) (links : Links f rs old) where
+module _ (f : Option Registration → Rectangle → Bool) (none : (a : Rectangle) → f None a ≡ false) (rs new : Registrations) (p : ℕ) (r : Registration) (old now : Pairs) (links : Links f rs old) where
   pub put_links : at rs p ≡ None → ((i : ℕ) → at new i ≡ cond (i == p) (Some r) (at rs i)) → ((l : Listener) → holds now l ≡ (holds old l || ((l.id == p) && f (Some r) l.area))) → Links f new now
   put_links was is adds l =
       at_all rs new p (Some r) is (λ i o. l.id ≡ i → holds now l ≡ f o l.area)
@@ -48,7 +48,7 @@ module _ (f : Option Registration → Rectangle → Bool) (none : (a : Rectangle
       ∙ and_true (holds old l) ∙ links l ∙ ap (λ n. f (at rs n) l.area) e)
       l.id refl
 
-module _ (rs new : Registrations) (p : ℕ) (r : Registration) (ears homes new_ears new_homes : SlotLists) (slab : IsSlab rs ears homes) where
+module _ (rs new : Registrations) (p : ℕ) (r : Registration) (ears homes new_ears new_homes : Pairs) (slab : IsSlab rs ears homes) where
   pub put_slab : at rs p ≡ None → ((i : ℕ) → at new i ≡ cond (i == p) (Some r) (at rs i)) → ((q : Place) → is_in r.run q ≡ true → areas_of rs q ≡ None)
       → IsRows r.run → All (LieInSheet (steps_of r.run)) r.ears.items
       → ((l : Listener) → holds new_ears l ≡ (holds ears l || ((l.id == p) && is_heard r.ears.items (steps_of r.run) l.area)))

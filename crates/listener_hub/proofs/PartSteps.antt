@@ -16,7 +16,7 @@ use Rattle.calc_model.specs.declared.dependents.Part.{Part}
 use Rattle.calc_model.specs.Ears.{ReadArea, area_at}
 use Rattle.calc_model.specs.Listeners.{ArePartsOf, Gets, IsAbove, IsHeard, IsRowOf}
 use Rattle.ears.specs.RunAreas.{ear_below}
-use Rattle.area_listeners.specs.Listening.{AreMeeting, SlotLists, has_id}
+use Rattle.area_listeners.specs.Pairs.{AreMeeting, Pairs, has_id}
 use Rattle.listener_hub.specs.declared.registration.Registration.{Registration}
 use Rattle.listener_hub.specs.Parting.{Adds, IsParted, IsParting, IsStep, Skips, first_row, has_row, next_part, part_run}
 use Rattle.listener_hub.specs.Slab.{AreApart, IsSlab, Registrations, area_of, areas_of, at, has_cell, is_in}
@@ -377,7 +377,7 @@ no_parts rs run parts ears next is = record {
         omega arith
 
 -- what all registrations that stand in the run give are its parts
-pub are_parts : (rs : Registrations) (ears homes : SlotLists) → IsSlab rs ears homes → (run : Rows) (ids sorted : List ℕ) (old now : List Part) (old_ears es : List ReadArea) → AreMeeting homes (area_of run) ids → IsPermutation ids sorted
+pub are_parts : (rs : Registrations) (ears homes : Pairs) → IsSlab rs ears homes → (run : Rows) (ids sorted : List ℕ) (old now : List Part) (old_ears es : List ReadArea) → AreMeeting homes (area_of run) ids → IsPermutation ids sorted
     → IsParted rs run sorted old now old_ears es → Gets old now (ArePartsOf (areas_of rs) run es)
 are_parts rs ears homes slab run ids sorted old now old_ears es meeting moved (next, parting) =
     (parting.parts, parting.is, record { rising = parting.rising; heard = parting.heard; all = λ q areas cell reads. in_parts q (cells_in run q cell) areas reads })

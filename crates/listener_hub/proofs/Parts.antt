@@ -9,7 +9,7 @@ use Rattle.calc_addr.specs.Places.{IsRectangle, Place, Rectangle, Rows}
 use Rattle.calc_model.specs.Ears.{ReadArea, area_at, end_at}
 use Rattle.ears.specs.RunAreas.{LieInSheet, ear_below}
 use Rattle.ears.proofs.Meetings.{inside_hull}
-use Rattle.area_listeners.specs.Listening.{SlotLists}
+use Rattle.area_listeners.specs.Pairs.{Pairs}
 use Rattle.listener_hub.specs.Changes.{IsPut}
 use Rattle.listener_hub.specs.Cuts.{is_part}
 use Rattle.listener_hub.specs.Slab.{IsSlab, Registrations, areas_at, areas_of, is_in}
@@ -43,7 +43,7 @@ part_is run first last q = ap (λ b. ((q.sheet == run.sheet) && (q.col == run.co
     up_to row last = grind (arith, nat_tests)
 
 -- a run that is registered
-module _ (old new : Registrations) (ears homes : SlotLists) (slab : IsSlab old ears homes) (run : Rows) (heard : List ReadArea) (put : IsPut old new run heard) (absent : (q : Place) → is_in run q ≡ true → areas_of old q ≡ None) where
+module _ (old new : Registrations) (ears homes : Pairs) (slab : IsSlab old ears homes) (run : Rows) (heard : List ReadArea) (put : IsPut old new run heard) (absent : (q : Place) → is_in run q ≡ true → areas_of old q ≡ None) where
   absent_there : (q : Place) → is_in put.registration.run q ≡ true → areas_of old q ≡ None
   absent_there q h = absent q (ap (λ (r : Rows). is_in r q) (sym put.run_is) ∙ h)
 
@@ -74,7 +74,7 @@ part_lies run from first last ears is low order high lie =
     (λ k d below. lies_below _ (run.last - run.first) (first - from) (last - first) (lie k d below) (omega arith))
 
 -- a registered part
-module _ (old new : Registrations) (ears homes : SlotLists) (slab : IsSlab old ears homes) (inside run : Rows) (same : inside ≡ run) (first last : ℕ) (below heard : List ReadArea)
+module _ (old new : Registrations) (ears homes : Pairs) (slab : IsSlab old ears homes) (inside run : Rows) (same : inside ≡ run) (first last : ℕ) (below heard : List ReadArea)
     (are_below : below ≡ map (λ e. ear_below e (first - inside.first)) heard) (put : IsPut old new (record { sheet = inside.sheet; col = inside.col; first = first; last = last }) below)
     (from : run.first ≤ first) (absent : (q : Place) → is_part run first (last + 1) q ≡ true → areas_of old q ≡ None) where
   pub part_registered : (q : Place) → areas_of new q ≡ cond (is_part run first (last + 1) q) (Some (areas_at heard run.first q.row)) (areas_of old q)

@@ -9,7 +9,7 @@ use Rattle.calc_model.specs.Listeners.{ReadAreas}
 use Rattle.ears.specs.declared.row_edit.Change.TheVariants.{Deletion}
 use Rattle.ears.specs.declared.row_edit.RowEdit.{RowEdit}
 use Rattle.ears.specs.RowEdits.{areas_after, place_after, row_by}
-use Rattle.area_listeners.specs.Listening.{SlotLists}
+use Rattle.area_listeners.specs.Pairs.{Pairs}
 use Rattle.listener_hub.specs.declared.registration.Registration.{Registration}
 use Rattle.listener_hub.specs.Cuts.{areas_in}
 use Rattle.listener_hub.specs.Moves.{IsMoved, IsPartMoved, KeepsAll, StaysAt, deletion}
@@ -115,7 +115,7 @@ stay_at edit rs apart keeps i = by_registration (at rs i) refl
         (cases_lt LAST_ROW d.row)
 
 -- deleted rows push no cell out
-pub deletion_keeps : (rs : Registrations) (ears homes : SlotLists) → IsSlab rs ears homes → (sheet place count : ℕ) → KeepsAll (deletion sheet place count) (areas_of rs)
+pub deletion_keeps : (rs : Registrations) (ears homes : Pairs) → IsSlab rs ears homes → (sheet place count : ℕ) → KeepsAll (deletion sheet place count) (areas_of rs)
 deletion_keeps rs ears homes slab sheet place count q d goes_to out =
     ⊎_elim
     (λ (s : Stands rs q).

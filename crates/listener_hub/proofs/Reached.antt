@@ -1,5 +1,5 @@
 -- Runs that were found are runs of cells that read the area.
-use Rattle.std.proofs.Common.{◌≡◌, ℕ, ◌+◌, ◌-◌, ◌≤◌, ◌<◌, true, ◌&&◌, ◌||◌, nat_le, List, [], ◌∷◌, refl, sym, ap, subst, ◌∙◌, ⊎_elim, arith}
+use Rattle.std.proofs.Common.{◌≡◌, ℕ, ◌+◌, ◌-◌, ◌≤◌, ◌<◌, Bool, true, false, ◌&&◌, ◌||◌, nat_le, List, [], ◌∷◌, refl, sym, ap, subst, ◌∙◌, ⊎_elim, arith}
 use Rattle.std.specs.Prelude.{◌==◌}
 use Rattle.std.specs.List.{Contains, flat_map, list_any}
 use Rattle.std.proofs.lemmas.Bool.{and_from, and_parts, eqb-true, false≢true, leb-true, or_cases}
@@ -10,6 +10,7 @@ use Rattle.calc_addr.specs.Places.{Place, Rectangle, Rows}
 use Rattle.calc_model.specs.Listeners.{AreReached, ReachesArea, ReadAreas, cells_of, cells_of_runs, reads_one_of}
 use Rattle.run_unions.specs.Unions.{is_in}
 use Rattle.run_unions.proofs.Emitting.{or_right}
+use Rattle.listener_hub.specs.Reaching.{GetReached}
 
 same_place : {s t c d r q : ℕ} → s ≡ t → c ≡ d → r ≡ q → ◌≡◌ {A = Place} (record { sheet = s; col = c; row = r }) (record { sheet = t; col = d; row = q })
 same_place a b c = cc
@@ -66,9 +67,9 @@ runs_in (r ∷ rs) q c =
     (λ (e : Contains (flat_map cells_of rs) q). or_right (is_in q r) (list_any (is_in q) rs) (runs_in rs q e))
     (Contains-append_cases (cells_of r) (flat_map cells_of rs) q c)
 
-pub reached : (read : ReadAreas) (area : Rectangle) (runs : List Rows) → ((q : Place) → list_any (is_in q) runs ≡ reads_one_of read area q) → AreReached read area runs
+pub reached : (read : ReadAreas) (area : Rectangle) (runs : List Rows) (set : Place → Bool) → ((q : Place) → set q ≡ reads_one_of read area q) → GetReached read area set [] runs → AreReached read area runs
 unfolding cells_of_runs
-reached read area runs exact = record {
-  all = λ q h. in_runs runs q (exact q ∙ h);
-  only = λ q c. ReachesArea.directly (sym (exact q) ∙ runs_in runs q c);
+reached read area runs set exact get = record {
+  all = λ q h. in_runs runs q (get.all q (exact q ∙ h));
+  only = λ q c. ⊎_elim (λ (e : false ≡ true). absurd (false≢true e)) (λ (e : ReachesArea read area q). e) (get.only q (runs_in runs q c));
 }

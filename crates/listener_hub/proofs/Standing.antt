@@ -9,12 +9,13 @@ use Rattle.calc_addr.specs.Places.{IsRectangle, IsRows, Place, Rectangle, Rows}
 use Rattle.calc_model.specs.Listeners.{listed}
 use Rattle.ears.specs.RunAreas.{is_same_area, meets}
 use Rattle.area_listeners.specs.declared.listener.Listener.{Listener}
-use Rattle.area_listeners.specs.Listening.{AreMeeting, SlotLists, has_id}
+use Rattle.area_listeners.proofs.Told.{is_among}
+use Rattle.area_listeners.specs.Pairs.{AreMeeting, Pairs, has_id}
 use Rattle.listener_hub.specs.declared.registration.Registration.{Registration}
 use Rattle.listener_hub.specs.declared.cuts.Cut.{Cut}
 use Rattle.listener_hub.specs.Cuts.{AreCandidates, cut_of, is_cut}
 use Rattle.listener_hub.specs.Hits.{registered_areas}
-use Rattle.listener_hub.specs.Slab.{AreApart, IsSlab, LiesInSheet, Registrations, area_of, areas_of, at, has_cell, is_in, stands}
+use Rattle.listener_hub.specs.Slab.{AreApart, IsSlab, Registrations, area_of, areas_of, at, has_cell, is_in, stands}
 use Rattle.listener_hub.proofs.Places.{lacks_read, read_at}
 
 up_to : (row last : ℕ) → nat_lt row (last + 1) ≡ nat_le row last
@@ -44,12 +45,12 @@ runs_meet r s q h k =
         → (((s == t) && (nat_le c d && nat_le d c)) && (nat_le f m && nat_le g l)) ≡ true
     meeting f l g m row e i a b c d = grind (arith, nat_tests)
 
-module _ (rs : Registrations) (ears homes : SlotLists) (slab : IsSlab rs ears homes) where
+module _ (rs : Registrations) (ears homes : Pairs) (slab : IsSlab rs ears homes) where
   pub found : (run : Rows) (ids : List ℕ) → AreMeeting homes (area_of run) ids → (j : ℕ) (q : Place) → is_in run q ≡ true → (o : Option Registration) → at rs j ≡ o → has_cell o q ≡ true → has_id ids j ≡ true
   found run ids meeting j q in_run None is has = absurd (false≢true has)
   found run ids meeting j q in_run (Some r) is has =
       let listener : Listener = record { area = area_of r.run; id = j } in
-      meeting.all listener (area_in_sheet r.run (subst LiesInSheet is (slab.inside j)).0)
+      is_among homes (area_of run) ids meeting listener
       (slab.homed listener ∙ ap (λ o. stands o (area_of r.run)) is ∙ same_itself (area_of r.run))
       (runs_meet r.run run q has in_run)
 
@@ -75,7 +76,7 @@ some_area : (rs : Registrations) → AreApart rs → (o : Option Registration) (
 some_area rs apart None i q is has = absurd (false≢true has)
 some_area rs apart (Some r) i q is has = ap listed (sym (read_at rs apart i r q is has))
 
-module _ (rs : Registrations) (ears homes : SlotLists) (slab : IsSlab rs ears homes) (q : Place) where
+module _ (rs : Registrations) (ears homes : Pairs) (slab : IsSlab rs ears homes) (q : Place) where
   -- what a registered cell reads
   pub reads_there : (i : ℕ) → has_cell (at rs i) q ≡ true → registered_areas (at rs i) q ≡ listed (areas_of rs q)
   reads_there i has = some_area rs slab.apart (at rs i) i q refl has

@@ -3,7 +3,7 @@ use Rattle.std.proofs.Common.{◌≡◌, ℕ, ◌≤◌, true, false, List, drop
 use Rattle.std.proofs.Math.ListN.{drop_of_length-le}
 use Rattle.std.proofs.lemmas.Bool.{cases_Bool, false≢true}
 use Rattle.calc_addr.specs.Places.{Place}
-use Rattle.area_listeners.specs.Listening.{has_id}
+use Rattle.area_listeners.specs.Pairs.{has_id}
 use Rattle.listener_hub.specs.declared.cuts.Cut.{Cut}
 use Rattle.listener_hub.specs.declared.slab.Slab.{Slab}
 use Rattle.listener_hub.specs.Changes.{IsSlabOf}

@@ -3,7 +3,7 @@ use Rattle.std.proofs.Common.{◌≡◌, ℕ, Bool, true, false, cond, not, ◌&
 use Rattle.std.specs.Prelude.{◌==◌}
 use Rattle.std.proofs.lemmas.Bool.{cases_Bool, false≢true}
 use Rattle.calc_addr.specs.Places.{Place, Rectangle}
-use Rattle.area_listeners.specs.Listening.{SlotLists}
+use Rattle.area_listeners.specs.Pairs.{Pairs}
 use Rattle.listener_hub.specs.declared.registration.Registration.{Registration}
 use Rattle.listener_hub.specs.declared.cuts.Cut.{Cut}
 use Rattle.listener_hub.specs.Cuts.{IsTrimmed, areas_in, is_cut}
@@ -11,7 +11,7 @@ use Rattle.listener_hub.specs.Slab.{IsSlab, Registrations, areas_of, at, has_cel
 use Rattle.listener_hub.proofs.Changes.{taken_has, taken_reads}
 use Rattle.listener_hub.proofs.Places.{read_at}
 
-module _ (old mid : Registrations) (ears homes : SlotLists) (slab : IsSlab old ears homes) (p : ℕ) (r : Registration) (was : at old p ≡ Some r) (taken : (i : ℕ) → at mid i ≡ cond (i == p) None (at old i)) where
+module _ (old mid : Registrations) (ears homes : Pairs) (slab : IsSlab old ears homes) (p : ℕ) (r : Registration) (was : at old p ≡ Some r) (taken : (i : ℕ) → at mid i ≡ cond (i == p) None (at old i)) where
   has_same : (q : Place) → has_cell (at old p) q ≡ is_in r.run q
   has_same q = ap (λ o. has_cell o q) was
 

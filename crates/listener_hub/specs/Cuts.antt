@@ -1,7 +1,7 @@
 -- Rows that are cut out of registrations.
 use Rattle.std.specs.Prelude.{◌≡◌, ℕ, Bool, true, false, ◌+◌, ◌&&◌, ◌==◌, nat_le, nat_lt, if◌then◌else◌, List, Option, None, Some}
 use Rattle.calc_addr.specs.Places.{Place, Rectangle, Rows}
-use Rattle.area_listeners.specs.Listening.{has_id}
+use Rattle.area_listeners.specs.Pairs.{has_id}
 use Rattle.listener_hub.specs.declared.cuts.Cut.{Cut}
 use Rattle.listener_hub.specs.declared.registration.Registration.{Registration}
 use Rattle.listener_hub.specs.Slab.{Registrations, areas_at, areas_of, at, has_cell}

@@ -1,6 +1,5 @@
 -- What the formula cells of a hub read.
-use Rattle.std.specs.Prelude.{ℕ, Bool, is_some, length, not}
-use Rattle.std.specs.List.{filter}
+use Rattle.std.specs.Prelude.{Bool, not}
 use Rattle.calc_model.specs.Listeners.{ReadAreas}
 use Rattle.listener_hub.specs.Known.{Known}
 use Rattle.listener_hub.specs.Slab.{areas_of}
@@ -12,7 +11,3 @@ areas_read hub = areas_of hub.registrations
 -- whether it may be asked
 abbrev pub is_ready : Known → Bool
 is_ready hub = not hub.spent
-
--- how many registrations it holds
-abbrev pub registration_count : Known → ℕ
-registration_count hub = length (filter is_some hub.registrations)

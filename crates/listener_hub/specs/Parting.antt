@@ -6,7 +6,7 @@ use Rattle.calc_model.specs.declared.dependents.Part.{Part}
 use Rattle.calc_model.specs.Ears.{ReadArea}
 use Rattle.calc_model.specs.Listeners.{IsAbove, IsHeard}
 use Rattle.ears.specs.RunAreas.{ear_below}
-use Rattle.area_listeners.specs.Listening.{has_id}
+use Rattle.area_listeners.specs.Pairs.{has_id}
 use Rattle.listener_hub.specs.declared.registration.Registration.{Registration}
 use Rattle.listener_hub.specs.Slab.{Registrations, areas_of, at, has_cell, is_in}
 

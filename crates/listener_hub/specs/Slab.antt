@@ -6,7 +6,7 @@ use Rattle.calc_model.specs.Ears.{ReadArea, area_at}
 use Rattle.calc_model.specs.Listeners.{ReadAreas}
 use Rattle.ears.specs.RunAreas.{LieInSheet, hull, is_same_area}
 use Rattle.area_listeners.specs.declared.listener.Listener.{Listener}
-use Rattle.area_listeners.specs.Listening.{SlotLists, holds}
+use Rattle.area_listeners.specs.Pairs.{Pairs, holds}
 use Rattle.listener_hub.specs.declared.registration.Registration.{Registration}
 
 abbrev pub Registrations : Type 0
@@ -62,7 +62,7 @@ abbrev pub AreApart : Registrations → Type 0
 AreApart rs = (i j : ℕ) (q : Place) → has_cell (at rs i) q ≡ true → has_cell (at rs j) q ≡ true → i ≡ j
 
 -- Who listens to what the registrations read and to where they stand, which is apart.
-pub record IsSlab (rs : Registrations) (ears homes : SlotLists) : Type 0 where
+pub record IsSlab (rs : Registrations) (ears homes : Pairs) : Type 0 where
   pub heard : (l : Listener) → holds ears l ≡ hears (at rs l.id) l.area
   pub homed : (l : Listener) → holds homes l ≡ stands (at rs l.id) l.area
   pub apart : AreApart rs

@@ -1,19 +1,22 @@
-ghost use Rattle.std.specs.Prelude.{◌≡◌, ◌≤◌, false, true, None, Some, OnErr, OnOk, if◌then◌else◌};
+ghost use Rattle.std.specs.Prelude.{◌≡◌, ◌≤◌, false, length, true, None, Some, OnErr, OnOk, if◌then◌else◌};
 ghost use Rattle.std.specs.List.{All};
 ghost use Rattle.calc_addr.specs.Places.{Place, single};
 ghost use Rattle.calc_model.specs.Listeners.{AreReaders, Gets};
 ghost use Rattle.ears.specs.RowEdits.{IsRowEdit};
 ghost use Rattle.ears.specs.RunAreas.{LieInSheet};
 ghost use Rattle.listener_hub.specs.Changes.{IsPut, IsSlabOf};
-ghost use Rattle.listener_hub.specs.Hubs.{areas_read, registration_count};
+ghost use Rattle.listener_hub.specs.Hubs.{areas_read};
 ghost use Rattle.listener_hub.specs.Moves.{IsMoved, KeepsAll, deletion, insertion};
 ghost use Rattle.listener_hub.specs.Slab.{areas_at, areas_of, is_in, steps_of};
 
 use crate::cuts::{remove_run, split_at};
+use crate::joining::put_joined;
 use crate::parting::push_parts;
-use crate::readers::{push_reached, push_readers, push_reads};
+use crate::reaching::push_reached;
+use crate::readers::{push_readers, push_reads};
+use crate::registration::registration_of;
 use crate::row_edits::move_rows;
-use crate::slab::{Slab, empty, put};
+use crate::slab::{Slab, empty};
 use calc_addr::{Area, Cell, NoMemory, Run};
 use calc_model::{Dependents, Ear, Part};
 use ears::{Change, RowEdit};
@@ -38,7 +41,7 @@ impl Model for Hub {
 
     ghost use Rattle.listener_hub.specs.Changes.{IsSlabOf};
 
-    ghost view = { λ h. record { registrations = h.slab.registrations.items; spent = h.spent } };
+    ghost view = { λ h. record { registrations = h.slab.registrations.items; listeners = h.slab.ears; spent = h.spent } };
 
     ghost invariant = { λ h. IsSlabOf h.slab };
 }
@@ -70,20 +73,18 @@ impl Hub {
         self.spent = true;
     }
 
-    /// How many runs are registered. Linear in the most that there were at a time. It serves tests alone.
-    pub fn registrations(&self) -> usize
-        ensures { result ≡ registration_count self.now }
+    /// How many pairs of an area and a run of formulas that reads it its listeners hold. It serves tests
+    /// alone.
+    pub fn registrations(&self) -> u64
+        ensures { result ≡ length self.now.listeners }
     {
-        self.slab
-            .registrations
-            .iter()
-            .filter(|place| place.is_some())
-            .count()
+        self.slab.ears.len() as u64
     }
 
     /// Adds the cells of a run, none of which is there, with the areas that they read: the ears are
-    /// those of the run's first row. Linear in the ears and in the slots of what they read, which are at
-    /// most sixteen a column, however many rows the run has.
+    /// those of the run's first row. It is registered as one with the runs in front of it and behind it
+    /// that it goes on with. Linear in the ears, each of which takes the logarithm of the registrations,
+    /// however many rows there are.
     pub fn attach(&mut self, run: Run, ears: &[Ear]) -> Result<(), NoMemory>
         requires ready { self.old.spent ≡ false }
         requires absent { (q : Place) → is_in run q ≡ true → areas_read self.old q ≡ None }
@@ -98,8 +99,8 @@ impl Hub {
         settle(&mut self.slab, &mut self.spent, done)
     }
 
-    /// Takes away the cells of a run that are there. Linear in the registrations that stand in its slots,
-    /// and in what is registered anew of those that are cut.
+    /// Takes away the cells of a run that are there. Linear in the registrations that have some of them,
+    /// and in what is registered anew of those that are cut, each in the logarithm of all.
     pub fn detach(&mut self, run: Run) -> Result<(), NoMemory>
         requires { self.old.spent ≡ false }
         ensures areas { OnOk result ((q : Place) → areas_read self.new q
@@ -131,8 +132,9 @@ impl Hub {
     }
 
     /// Moves every cell with its row, and every area on the sheet with its rows, when `count` rows are
-    /// inserted at the row `place`. No formula cell may be pushed past the last row. Linear in what is
-    /// registered, whatever the rows.
+    /// inserted at the row `place`. No formula cell may be pushed past the last row. What is one run again
+    /// afterwards is registered as one. Linear in what is registered, each registration in the logarithm of
+    /// all, whatever the rows.
     pub fn insert_rows(&mut self, sheet: u8, place: u32, count: u32) -> Result<(), NoMemory>
         requires ready { self.old.spent ≡ false }
         requires edit { IsRowEdit (insertion sheet place count) }
@@ -199,25 +201,27 @@ impl Dependents for Hub {
     ghost ready = { is_ready };
 
     /// Appends each formula cell that reads a cell of the area, once, in the order of cells. Linear in the
-    /// registrations that are told of the slots of the area, and in the cells that are appended.
+    /// registrations that are looked at, as `AreaListeners::meeting` says, and in the cells that are
+    /// appended.
     fn readers(&self, area: Area, out: &mut Vec<Cell>) -> Result<(), NoMemory> {
         push_readers(&self.slab, &area, out)
     }
 
     /// Appends the areas that the cell reads, in the order in which its ears were given. Linear in them,
-    /// and in the registrations that stand in the cell's slots.
+    /// and in the registrations of its column that are looked at.
     fn reads(&self, cell: Cell, out: &mut Vec<Area>) -> Result<(), NoMemory> {
         push_reads(&self.slab, &cell, out)
     }
 
-    /// Appends the rows that read a cell of the area, as runs. Linear in the registrations that are told of
-    /// the slots of the area.
+    /// Appends the rows that read a cell of the area, as runs. In a run whose rows each read the one above
+    /// them all rows below are appended with the first one, and so upwards. Linear in the registrations
+    /// that are looked at, as `AreaListeners::meeting` says, whatever the rows.
     fn reached(&self, area: Area, out: &mut Vec<Run>) -> Result<(), NoMemory> {
         push_reached(&self.slab, &area, out)
     }
 
-    /// Appends the parts of the run, one for each registration. Linear in the registrations that stand in
-    /// its slots, which are sorted, and in their ears.
+    /// Appends the parts of the run, one for each registration. Linear in the registrations of the column
+    /// that are looked at, of which those with rows of it are sorted, and in their ears.
     fn parts(&self, run: Run, parts: &mut Vec<Part>, ears: &mut Vec<Ear>) -> Result<(), NoMemory> {
         push_parts(&self.slab, &run, parts, ears)
     }
@@ -250,6 +254,6 @@ fn attach_in(slab: &mut Slab, run: &Run, ears: &[Ear]) -> Result<(), NoMemory>
         else areas_of slab.old.registrations.items q)) }
 {
     let ears = Vec::from_slice(slab.alloc, ears)?;
-    put(slab, run, ears)?;
+    put_joined(slab, registration_of(run, ears))?;
     Ok(())
 }

@@ -3,8 +3,10 @@
 
 mod cuts;
 mod hub;
+mod joining;
 mod listening;
 mod parting;
+mod reaching;
 mod readers;
 mod registration;
 mod row_edits;

@@ -2,7 +2,7 @@ ghost use Rattle.std.specs.Prelude.{◌≡◌, ◌&&◌, ◌||◌, ◌≤◌, �
 ghost use Rattle.std.specs.List.{All};
 ghost use Rattle.calc_addr.specs.Places.{IsRows};
 ghost use Rattle.ears.specs.RunAreas.{LieInSheet};
-ghost use Rattle.area_listeners.specs.Listening.{holds};
+ghost use Rattle.area_listeners.specs.Pairs.{holds};
 ghost use Rattle.listener_hub.specs.Slab.{area_of, is_heard, steps_of};
 
 use area_listeners::{AreaListeners, Listener};

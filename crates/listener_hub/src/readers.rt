@@ -2,7 +2,7 @@ ghost use Rattle.std.specs.Prelude.{◌≡◌, ◌≤◌, ◌++◌, ◌||◌, �
 ghost use Rattle.std.specs.List.{All, list_any};
 ghost use Rattle.calc_addr.specs.Places.{Place};
 ghost use Rattle.calc_model.specs.Ears.{area_at};
-ghost use Rattle.calc_model.specs.Listeners.{AreReached, AreReaders, Gets, listed, reads_one_of};
+ghost use Rattle.calc_model.specs.Listeners.{AreReaders, Gets, listed, reads_one_of};
 ghost use Rattle.ears.specs.RunAreas.{LieInSheet};
 ghost use Rattle.run_unions.specs.Unions.{is_in};
 ghost use Rattle.listener_hub.specs.Changes.{IsSlabOf};
@@ -108,18 +108,6 @@ pub(crate) fn push_readers(slab: &Slab, area: &Area, out: &mut Vec<Cell>) -> Res
     push_union(runs, out)
 }
 
-/// Appends runs of which the cells are those that read a cell of the area.
-pub(crate) fn push_reached(slab: &Slab, area: &Area, out: &mut Vec<Run>) -> Result<(), NoMemory>
-    requires { IsSlabOf slab.now }
-    ensures ok { OnOk result (Gets out.old.items out.new.items
-        (AreReached (areas_of slab.now.registrations.items) area.now)) }
-    ensures err { OnErr result (out.new.items ≡ out.old.items) }
-{
-    let runs = hits(slab, area)?;
-    out.extend_from_slice(&runs)?;
-    Ok(())
-}
-
 /// Appends the area that the row reads which lies so many rows below a run's first one, for each ear.
 fn push_areas(ears: &[Ear], step: u32, steps: u32, out: &mut Vec<Area>) -> Result<(), NoMemory>
     requires inside { All (LieInSheet steps) ears.now }
@@ -148,7 +136,11 @@ fn has_cell(registrations: &[Option<Registration>], place: usize, cell: &Cell) -
 }
 
 /// The first of the places whose registration has the cell.
-fn place_of(registrations: &[Option<Registration>], places: &[usize], cell: &Cell) -> Option<usize>
+pub(crate) fn place_of(
+    registrations: &[Option<Registration>],
+    places: &[usize],
+    cell: &Cell,
+) -> Option<usize>
     ensures found { IfSome result (λ i. has_cell (at registrations.now i) cell.now ≡ true) }
     ensures none { IfNone result
         (list_any (λ i. has_cell (at registrations.now i) cell.now) places.now ≡ false) }

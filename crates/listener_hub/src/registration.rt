@@ -1,6 +1,8 @@
 ghost use Rattle.std.specs.Option.{option_copied};
-ghost use Rattle.std.specs.Prelude.{◌≡◌};
-ghost use Rattle.listener_hub.specs.Slab.{at};
+ghost use Rattle.std.specs.Prelude.{◌≡◌, Some};
+ghost use Rattle.std.specs.List.{All};
+ghost use Rattle.ears.specs.RunAreas.{LieInSheet};
+ghost use Rattle.listener_hub.specs.Slab.{LiesInSheet, at, steps_of};
 
 use calc_addr::Run;
 use calc_model::Ear;
@@ -10,6 +12,17 @@ use calc_model::Ear;
 pub struct Registration {
     pub(crate) run: Run,
     pub(crate) ears: Vec<Ear>,
+}
+
+/// The registration of a run by the ears of its first row.
+pub(crate) fn registration_of(run: &Run, ears: Vec<Ear>) -> Registration
+    requires { All (LieInSheet (steps_of run.now)) ears.items }
+    ensures run { result.run ≡ run.now }
+    ensures ears { result.ears.items ≡ ears.items }
+    ensures inside { LiesInSheet (Some result) }
+{
+    let _ = &run.first;
+    Registration { run: *run, ears }
 }
 
 /// The registration at a place, if there is one.

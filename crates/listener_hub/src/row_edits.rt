@@ -10,9 +10,10 @@ ghost use Rattle.listener_hub.specs.Moves.{IsMoved, IsPartMoved, IsPieceMoved, K
 ghost use Rattle.listener_hub.specs.Slab.{AreApart, LiesInSheet, areas_of, at, is_in, steps_of};
 
 use crate::cuts::ears_below;
+use crate::joining::put_joined;
 use crate::listening::{steps_before, steps_of};
-use crate::registration::{Registration, registration_at};
-use crate::slab::{Slab, empty, put};
+use crate::registration::{Registration, registration_at, registration_of};
+use crate::slab::{Slab, empty};
 use calc_addr::{LAST_ROW, NoMemory, Run};
 use calc_model::Ear;
 use ears::{RowEdit, ear_after, run_after, whole_rows, whole_steps};
@@ -75,7 +76,7 @@ fn put_whole(fresh: &mut Slab, edit: &RowEdit, piece: &Run, ears: &[Ear]) -> Res
 {
     if let Some(to) = run_after(edit, piece) {
         let moved = ears_after(fresh.alloc, edit, ears)?;
-        put(fresh, &to, moved)?;
+        put_joined(fresh, registration_of(&to, moved))?;
     }
     Ok(())
 }

@@ -1,6 +1,6 @@
 use Rattle.std.proofs.Common.{List, ℕ, sym, subst}
 use Rattle.calc_addr.specs.Places.{Rectangle}
-use Rattle.area_listeners.specs.Listening.{AreMeeting}
+use Rattle.area_listeners.specs.Pairs.{AreMeeting}
 use Rattle.listener_hub.specs.declared.cuts.Cut.{Cut}
 use Rattle.listener_hub.specs.Cuts.{AreCandidates, cut_of}
 use Rattle.listener_hub.proofs.Standing.{candidates, removed}

@@ -3,7 +3,7 @@ use Rattle.std.specs.Prelude.{◌==◌}
 use Rattle.std.proofs.lemmas.List.Folds.{list_any_more}
 use Rattle.calc_addr.specs.Places.{Rectangle}
 use Rattle.calc_model.specs.Ears.{ReadArea}
-use Rattle.area_listeners.specs.Listening.{holds}
+use Rattle.area_listeners.specs.Pairs.{holds}
 use Rattle.ears.specs.RunAreas.{hull, is_same_area}
 use Rattle.listener_hub.specs.Slab.{is_heard}
 use Rattle.listener_hub.proofs.listening.listen_no_more.Goals as goal

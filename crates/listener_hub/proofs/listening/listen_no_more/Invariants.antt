@@ -1,7 +1,7 @@
 use Rattle.std.proofs.Common.{◌≡◌, ◌&&◌, not, take}
 use Rattle.std.specs.Prelude.{◌==◌}
 use Rattle.area_listeners.specs.declared.listener.Listener.{Listener}
-use Rattle.area_listeners.specs.Listening.{holds}
+use Rattle.area_listeners.specs.Pairs.{holds}
 use Rattle.listener_hub.specs.Slab.{is_heard}
 use Rattle.listener_hub.proofs.listening.listen_no_more.Given as goal
 

@@ -2,7 +2,7 @@ use Rattle.std.proofs.Common.{rules, List, sym, subst, ℕ}
 use Rattle.std.specs.List.Sorted.{IsNonDecreasingBy}
 use Rattle.std.proofs.lemmas.List.Sorted.{IsNonDecreasingBy-from_sort_by_key}
 use Rattle.calc_addr.specs.Places.{Rectangle}
-use Rattle.area_listeners.specs.Listening.{AreMeeting}
+use Rattle.area_listeners.specs.Pairs.{AreMeeting}
 use Rattle.listener_hub.specs.Parting.{IsParted, first_row}
 use Rattle.listener_hub.specs.Slab.{Registrations, at}
 use Rattle.listener_hub.proofs.PartSteps.{are_parts}

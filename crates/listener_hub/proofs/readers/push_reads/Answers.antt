@@ -2,7 +2,7 @@ use Rattle.std.proofs.Common.{◌++◌, List, ℕ, sym, ap, subst, ◌∙◌, ap
 use Rattle.std.specs.List.{list_any}
 use Rattle.std.proofs.lemmas.Result.{on_ok_weaker}
 use Rattle.calc_addr.specs.Places.{Place, Rectangle}
-use Rattle.area_listeners.specs.Listening.{AreMeeting}
+use Rattle.area_listeners.specs.Pairs.{AreMeeting}
 use Rattle.listener_hub.specs.Hits.{registered_areas}
 use Rattle.listener_hub.specs.Slab.{Registrations, area_of, at, has_cell}
 use Rattle.listener_hub.proofs.Standing.{reads_nowhere, reads_there, run_of}

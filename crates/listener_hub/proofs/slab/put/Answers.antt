@@ -2,7 +2,7 @@ use Rattle.std.proofs.Common.{◌&&◌, ◌||◌, ℕ, List, refl, sym, ap, ◌�
 use Rattle.std.specs.Prelude.{◌==◌}
 use Rattle.calc_addr.specs.Places.{Rectangle}
 use Rattle.calc_model.specs.Ears.{ReadArea}
-use Rattle.area_listeners.specs.Listening.{holds}
+use Rattle.area_listeners.specs.Pairs.{holds}
 use Rattle.area_listeners.specs.Pairs.{is_same}
 use Rattle.listener_hub.specs.Slab.{Registrations, at, is_heard}
 use Rattle.listener_hub.proofs.Linked.{put_slab}
