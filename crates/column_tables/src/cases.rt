@@ -2,7 +2,9 @@ use calc_addr::LAST_ROW;
 
 /// What a row holds: nothing, a number, or an error.
 pub const NONE: u8 = 0;
+
 pub const ONE: u8 = 1;
+
 pub const BAD: u8 = 2;
 
 /// An edit of a column. Rows are the first and the last, and a place has a count.
@@ -58,18 +60,8 @@ pub const CASES: &[Case] = &[
     },
     // At the first and the last row of a block.
     Case {
-        edits: &[
-            Edit::Range(5, 9, ONE),
-            Edit::Set(5, BAD),
-            Edit::Set(9, BAD),
-        ],
-        left: &[
-            (4, NONE),
-            (5, BAD),
-            (8, ONE),
-            (9, BAD),
-            (LAST_ROW, NONE),
-        ],
+        edits: &[Edit::Range(5, 9, ONE), Edit::Set(5, BAD), Edit::Set(9, BAD)],
+        left: &[(4, NONE), (5, BAD), (8, ONE), (9, BAD), (LAST_ROW, NONE)],
     },
     Case {
         edits: &[
@@ -78,13 +70,7 @@ pub const CASES: &[Case] = &[
             Edit::Clear(9, 9),
             Edit::Set(10, ONE),
         ],
-        left: &[
-            (5, NONE),
-            (8, ONE),
-            (9, NONE),
-            (10, ONE),
-            (LAST_ROW, NONE),
-        ],
+        left: &[(5, NONE), (8, ONE), (9, NONE), (10, ONE), (LAST_ROW, NONE)],
     },
     // A block of one row between unlike ones, and its end.
     Case {
