@@ -57,8 +57,16 @@ fn stretch(run: &Run, ways: &Ways, first: u32, last: u32) -> Run
     Run {
         sheet: run.sheet,
         col: run.col,
-        first: if ways.up { run.first } else { run.first + first },
-        last: if ways.down { run.last } else { run.first + last },
+        first: if ways.up {
+            run.first
+        } else {
+            run.first + first
+        },
+        last: if ways.down {
+            run.last
+        } else {
+            run.first + last
+        },
     }
 }
 
@@ -90,12 +98,7 @@ fn push_stretch(
 }
 
 /// The same by all its references.
-fn push_stretches(
-    run: &Run,
-    ears: &[Ear],
-    area: &Area,
-    out: &mut Vec<Run>,
-) -> Result<(), NoMemory>
+fn push_stretches(run: &Run, ears: &[Ear], area: &Area, out: &mut Vec<Run>) -> Result<(), NoMemory>
     requires { All (LieInSheet (steps_of run.now)) ears.now }
     ensures { OnOk result (GetStretch run.now ears.now area.now
         (λ q. list_any (is_hit run.now area.now q) ears.now) out.old.items out.new.items) }
