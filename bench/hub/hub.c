@@ -119,6 +119,27 @@ CALL uint32_t parts(const Hub *hub, uint32_t col, uint32_t first, uint32_t last,
     return count;
 }
 
+/* The cells that reach a cell by reading, in `out`, which has room for all. */
+CALL uint32_t reached(const Hub *hub, uint32_t col, uint32_t row, uint8_t *marks, uint32_t *out) {
+    uint32_t count = 0, next = 0;
+    memset(marks, 0, COLUMNS * ROWS);
+    for (;;) {
+        const List *list = &hub->lists[col][row];
+        for (uint32_t at = 0; at < list->count; at++) {
+            uint32_t cell = list->items[at] & ~WIDE;
+            uint8_t *mark = &marks[(cell >> 20) * ROWS + (cell & 0xfffff)];
+            if (!*mark) {
+                *mark = 1;
+                out[count++] = cell;
+            }
+        }
+        if (next == count)
+            return count;
+        col = out[next] >> 20;
+        row = out[next++] & 0xfffff;
+    }
+}
+
 /* The entries of an inserted row: the readers of areas that have the rows above and below. */
 static List entries_between(const List *above, const List *below) {
     List fresh = {0};
@@ -177,6 +198,7 @@ static uint64_t parts_sum(const Run *parts, uint32_t count) {
 }
 
 static uint32_t cells[1 << 20];
+static uint8_t marks[COLUMNS * ROWS];
 
 static uint64_t checksum(const Hub *hub) {
     uint64_t sum = 0;
@@ -241,6 +263,13 @@ static void whole(void) {
     end = now();
     tell("parts", 100000, start, end, sum);
 
+    sum = 0;
+    start = now();
+    for (int turn = 0; turn < 100; turn++)
+        sum += reached(hub, 3, 1, marks, cells);
+    end = now();
+    tell("reached", 100, start, end, sum);
+
     start = now();
     insert_row(hub, 50000);
     end = now();
@@ -301,7 +330,7 @@ static void fan(uint32_t count) {
 int main(void) {
     whole();
     scattered();
-    fan(5000);
     fan(10000);
+    fan(100000);
     return 0;
 }

@@ -1,4 +1,3 @@
-pub mod Below
 pub mod GoingOn
 pub mod Meetings
 pub mod Together

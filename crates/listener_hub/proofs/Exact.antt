@@ -49,21 +49,6 @@ hull_meets e steps step area le h =
     last_high true row step steps first le h = grind (arith, nat_tests)
     last_high false row step steps first le h = h
 
-hull_valid : (e : ReadArea) (steps : ℕ) → LieInSheet steps e → IsRectangle (hull e steps)
-hull_valid e steps h = record {
-  sheet_in = h.first.sheet_in;
-  cols_from = h.first.cols_from;
-  cols_in_order = h.first.cols_in_order;
-  cols_to = h.first.cols_to;
-  rows_from = h.first.rows_from;
-  rows_in_order = rise e.last_moves e.area.first_row e.area.last_row steps h.first.rows_in_order;
-  rows_to = h.last.rows_to;
-}
-  where
-    rise : (moves : Bool) (first row steps : ℕ) → first ≤ row → first ≤ end_at moves row steps
-    rise true first row steps h = omega arith
-    rise false first row steps h = h
-
 row_below : (run : Rows) (q : Place) → is_in run q ≡ true → q.row - run.first ≤ steps_of run
 row_below run q h =
     let rows = and_parts _ _ (and_parts _ _ h).1 in

@@ -5,7 +5,7 @@ use Rattle.std.specs.List.{list_any}
 use Rattle.std.proofs.lemmas.List.Folds.{Any-from_list_any, list_any-from_Any}
 use Rattle.std.proofs.lemmas.Bool.{and_parts, cases_Bool, eqb-true, false≢true}
 use Rattle.std.proofs.lemmas.Bool.Decides.{nat_tests}
-use Rattle.calc_addr.specs.Places.{IsRectangle, IsRows, Place, Rectangle, Rows}
+use Rattle.calc_addr.specs.Places.{Place, Rectangle, Rows}
 use Rattle.calc_model.specs.Listeners.{listed}
 use Rattle.ears.specs.RunAreas.{is_same_area, meets}
 use Rattle.area_listeners.specs.declared.listener.Listener.{Listener}
@@ -23,9 +23,6 @@ up_to row last = grind (arith, nat_tests)
 
 pub cut_is : (run : Rows) (q : Place) → is_cut (cut_of run) q ≡ is_in run q
 cut_is run q = ap (λ b. ((q.sheet == run.sheet) && (q.col == run.col)) && (nat_le run.first q.row && b)) (up_to q.row run.last)
-
-pub area_in_sheet : (run : Rows) → IsRows run → IsRectangle (area_of run)
-area_in_sheet run h = record { sheet_in = h.sheet_in; cols_from = h.col_from; cols_in_order = omega arith; cols_to = h.col_to; rows_from = h.from; rows_in_order = h.in_order; rows_to = h.to }
 
 pub same_itself : (a : Rectangle) → is_same_area a a ≡ true
 same_itself a = grind (arith, nat_tests)
