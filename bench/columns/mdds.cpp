@@ -149,21 +149,19 @@ static void walks() {
     auto hint = c.begin();
     for (uint32_t row = 0; row < MILLION; row++)
         hint = (row + 1) % 1000 ? c.set(hint, row, int64_t(row + 1)) : c.set(hint, row, uint8_t(1));
-    for (const char *name : {"value_pieces", "value_spans", "value_next_used"}) {
-        uint64_t sum = 0, start = now();
-        for (const auto &block : c) {
-            if (block.type == mdds::mtv::element_type_int64) {
-                for (auto at = mdds::mtv::int64_element_block::begin(*block.data);
-                     at != mdds::mtv::int64_element_block::end(*block.data); ++at)
-                    sum = sum * 31 + (uint64_t(*at) & ((UINT64_C(1) << 40) - 1));
-            } else if (block.type == mdds::mtv::element_type_uint8) {
-                for (size_t i = 0; i < block.size; i++)
-                    sum = sum * 31 + 7;
-            }
+    uint64_t sum = 0, start = now();
+    for (const auto &block : c) {
+        if (block.type == mdds::mtv::element_type_int64) {
+            for (auto at = mdds::mtv::int64_element_block::begin(*block.data);
+                 at != mdds::mtv::int64_element_block::end(*block.data); ++at)
+                sum = sum * 31 + (uint64_t(*at) & ((UINT64_C(1) << 40) - 1));
+        } else if (block.type == mdds::mtv::element_type_uint8) {
+            for (size_t i = 0; i < block.size; i++)
+                sum = sum * 31 + 7;
         }
-        uint64_t end = now();
-        tell(name, MILLION, start, end, sum);
     }
+    uint64_t end = now();
+    tell("value_pieces", MILLION, start, end, sum);
 }
 
 int main() {
