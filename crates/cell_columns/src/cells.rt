@@ -20,7 +20,7 @@ pub(crate) fn column_number(cell: Cell) -> usize
     ensures among { result < COLUMNS }
     ensures place { IsPlace cell }
 {
-    1024 * usize::from(cell.sheet) + usize::from(cell.col) - 1
+    usize::from(LAST_COL) * usize::from(cell.sheet) + usize::from(cell.col) - 1
 }
 
 /// The number of an area's first column among all, and that behind its last.
@@ -29,7 +29,7 @@ pub(crate) fn numbers_of(area: Area) -> (usize, usize)
     ensures behind { result.1 ≡ result.0 + (area.last_col + 1 - area.first_col) }
     ensures area { IsRectangle area }
 {
-    let from = 1024 * usize::from(area.sheet) + usize::from(area.first_col) - 1;
+    let from = usize::from(LAST_COL) * usize::from(area.sheet) + usize::from(area.first_col) - 1;
     (from, from + usize::from(area.last_col - area.first_col) + 1)
 }
 
