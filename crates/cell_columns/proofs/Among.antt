@@ -31,7 +31,7 @@ module _ {K : Type 0} (same : K → K → Bool) (decides : (k l : K) → Decides
   abbrev weight : Run K → ℕ
   weight r = cond (counts r.key) (over r) 0
 
-  abbrev row : Option K → ℕ
+  abbrev pub row : Option K → ℕ
   row (Some k) = cond (counts k) 1 0
   row None = 0
 
@@ -132,11 +132,11 @@ module _ {K : Type 0} (same : K → K → Bool) (decides : (k l : K) → Decides
   pub rows_sum : 1 ≤ first → (s : List (Option K)) → sum_by weight (runs_of same s) ≡ sum_by row (take (last + 1 - first) (drop (first - 1) s))
   rows_sum from s = runs_sum 1 s ∙ to_first 1 s from
 
-sum_map : {X Y : Type 0} (g : X → Y) (f : Y → ℕ) (xs : List X) → sum_by f (map g xs) ≡ sum_by (λ x. f (g x)) xs
+pub sum_map : {X Y : Type 0} (g : X → Y) (f : Y → ℕ) (xs : List X) → sum_by f (map g xs) ≡ sum_by (λ x. f (g x)) xs
 sum_map g f [] = refl
 sum_map g f (x ∷ xs) = omega (arith, sum_by-cons f (g x) (map g xs), sum_by-cons (λ x. f (g x)) x xs, sum_map g f xs)
 
-sum_alike : {X : Type 0} (f g : X → ℕ) → ((x : X) → f x ≡ g x) → (xs : List X) → sum_by f xs ≡ sum_by g xs
+pub sum_alike : {X : Type 0} (f g : X → ℕ) → ((x : X) → f x ≡ g x) → (xs : List X) → sum_by f xs ≡ sum_by g xs
 sum_alike f g same [] = refl
 sum_alike f g same (x ∷ xs) = omega (arith, sum_by-cons f x xs, sum_by-cons g x xs, same x, sum_alike f g same xs)
 

@@ -9,7 +9,7 @@ use Rattle.cell_columns.specs.Cells.{Column, cell_in, cells_below, cells_from, c
 use Rattle.cell_columns.specs.Uses.{cell_of, summed}
 
 module _ (codes : Codes) where
-  counted_below : (number row : ℕ) (xs : Column) → length (cells_below codes number row xs) ≡ sum_by cell_of xs
+  pub counted_below : (number row : ℕ) (xs : Column) → length (cells_below codes number row xs) ≡ sum_by cell_of xs
   counted_below number row [] = refl
   counted_below number row (x ∷ xs) =
       let rest : CellEntries = cells_below codes number (row + 1) xs in

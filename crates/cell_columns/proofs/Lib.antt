@@ -14,6 +14,9 @@
 -- EmptyRows: rows of a column that are emptied.
 -- Rooms: columns that are emptied one after the other.
 -- Clearing: a column that is emptied between two rows, with its groups and codes.
+-- Walks: the cells of some rows of columns. Filled: rows that hold something.
+-- CountsMore: cells of an area that are counted and listed.
+-- Looked: what is lent of a cell's content.
 -- Told: the cells of columns are those of a book, which slots decide.
 pub mod Orders
 pub mod Found
@@ -36,3 +39,7 @@ pub mod Among
 pub mod EmptyRows
 pub mod Rooms
 pub mod Clearing
+pub mod Walks
+pub mod Filled
+pub mod CountsMore
+pub mod Looked

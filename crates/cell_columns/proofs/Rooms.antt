@@ -8,12 +8,13 @@ use Rattle.calc_addr.specs.Places.{IsPlace, IsRectangle, Place, Rectangle, cover
 use Rattle.calc_model.specs.Books.{is_cell_entry, is_content, is_place}
 use Rattle.calc_model.proofs.Areas.{both_true}
 use Rattle.calc_model.specs.declared.content.Content.{Content}
-use Rattle.calc_model.specs.CellEdits.{CellEntries, without_area}
+use Rattle.calc_model.specs.CellEdits.{CellEntries, within_area, without_area}
 use Rattle.formula_code.specs.Codes.{Codes}
 use Rattle.block_column.specs.SlotRows.{SlotRows}
 use Rattle.formula_groups.specs.GroupRows.{GroupRows}
 use Rattle.cell_columns.specs.Cells.{cells_of, column_number}
 use Rattle.cell_columns.specs.Emptied.{lies_in, without_rows}
+use Rattle.cell_columns.specs.Walks.{within_rows}
 use Rattle.cell_columns.specs.Lent.{AreColumns, HaveRoom, codes_of, slots_of}
 use Rattle.cell_columns.proofs.PutSlot.{unequal}
 use Rattle.cell_columns.proofs.Told.{tested_place}
@@ -102,16 +103,23 @@ same_cover area is q at = agree _ _ onward back
     agree false true h k = k refl
     agree false false h k = refl
 
-pub without_covered : (area : Rectangle) → IsRectangle area → (from behind : ℕ) → from ≡ area.sheet * LAST_COL + (area.first_col - 1) → behind ≡ from + (area.last_col + 1 - area.first_col) → (es : CellEntries) → list_all is_cell_entry es ≡ true → without_rows from behind area.first_row area.last_row es ≡ without_area es area
-without_covered area is from behind start end es held =
-    ap (λ n. without_rows from n area.first_row area.last_row es) end
-    ∙ ap (λ n. without_rows n (n + (area.last_col + 1 - area.first_col)) area.first_row area.last_row es) start
+-- entries of places are kept by the rows of an area's columns as by the area
+covered_alike : (keep : Bool → Bool) (area : Rectangle) → IsRectangle area → (from behind : ℕ) → from ≡ area.sheet * LAST_COL + (area.first_col - 1) → behind ≡ from + (area.last_col + 1 - area.first_col) → (es : CellEntries) → list_all is_cell_entry es ≡ true → filter (λ e. keep (lies_in from behind area.first_row area.last_row e.0)) es ≡ filter (λ e. keep (covers area e.0)) es
+covered_alike keep area is from behind start end es held =
+    ap (λ n. filter (λ e. keep (lies_in from n area.first_row area.last_row e.0)) es) end
+    ∙ ap (λ n. filter (λ e. keep (lies_in n (n + (area.last_col + 1 - area.first_col)) area.first_row area.last_row e.0)) es) start
     ∙ each es held
   where
-    each : (es : CellEntries) → list_all is_cell_entry es ≡ true → without_rows (area.sheet * LAST_COL + (area.first_col - 1)) (area.sheet * LAST_COL + (area.first_col - 1) + (area.last_col + 1 - area.first_col)) area.first_row area.last_row es ≡ without_area es area
+    each : (es : CellEntries) → list_all is_cell_entry es ≡ true → filter (λ e. keep (lies_in (area.sheet * LAST_COL + (area.first_col - 1)) (area.sheet * LAST_COL + (area.first_col - 1) + (area.last_col + 1 - area.first_col)) area.first_row area.last_row e.0)) es ≡ filter (λ e. keep (covers area e.0)) es
     each [] h = refl
     each (e ∷ es) h =
         let parts = both_true (is_cell_entry e) (list_all is_cell_entry es) h in
         let place = both_true (is_place e.0) (is_content e.1) parts.0 in
-        ap (λ (t : CellEntries). cond (not (lies_in (area.sheet * LAST_COL + (area.first_col - 1)) (area.sheet * LAST_COL + (area.first_col - 1) + (area.last_col + 1 - area.first_col)) area.first_row area.last_row e.0)) (e ∷ t) t) (each es parts.1)
-        ∙ ap (λ b. cond (not b) (e ∷ without_area es area) (without_area es area)) (same_cover area is e.0 (tested_place e.0 place.0))
+        ap (λ (t : CellEntries). cond (keep (lies_in (area.sheet * LAST_COL + (area.first_col - 1)) (area.sheet * LAST_COL + (area.first_col - 1) + (area.last_col + 1 - area.first_col)) area.first_row area.last_row e.0)) (e ∷ t) t) (each es parts.1)
+        ∙ ap (λ b. cond (keep b) (e ∷ filter (λ e. keep (covers area e.0)) es) (filter (λ e. keep (covers area e.0)) es)) (same_cover area is e.0 (tested_place e.0 place.0))
+
+pub without_covered : (area : Rectangle) → IsRectangle area → (from behind : ℕ) → from ≡ area.sheet * LAST_COL + (area.first_col - 1) → behind ≡ from + (area.last_col + 1 - area.first_col) → (es : CellEntries) → list_all is_cell_entry es ≡ true → without_rows from behind area.first_row area.last_row es ≡ without_area es area
+without_covered area is from behind start end es held = covered_alike (λ b. not b) area is from behind start end es held
+
+pub within_covered : (area : Rectangle) → IsRectangle area → (from behind : ℕ) → from ≡ area.sheet * LAST_COL + (area.first_col - 1) → behind ≡ from + (area.last_col + 1 - area.first_col) → (es : CellEntries) → list_all is_cell_entry es ≡ true → within_rows from behind area.first_row area.last_row es ≡ within_area es area
+within_covered area is from behind start end es held = covered_alike (λ b. b) area is from behind start end es held

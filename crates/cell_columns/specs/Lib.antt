@@ -5,6 +5,8 @@
 -- Taken: how the uses of codes change.
 -- Freed: the formulas of neighbouring rows by the groups of their column.
 -- Emptied: cells without those of some rows in neighbouring columns.
+-- Looks: what is lent of a cell's content.
+-- Walks: the rows of a column that hold something, and the cells that they are.
 pub mod Cells
 pub mod Uses
 pub mod Sheets
@@ -12,3 +14,5 @@ pub mod Lent
 pub mod Taken
 pub mod Freed
 pub mod Emptied
+pub mod Looks
+pub mod Walks

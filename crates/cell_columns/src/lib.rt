@@ -3,10 +3,14 @@
 
 mod cells;
 mod columns;
+mod counting;
 mod emptying;
+mod looking;
 mod making;
 mod reading;
 mod release;
 mod slots;
+mod walking;
 
 pub use columns::{COLUMNS, CellColumns};
+pub use looking::Coded;

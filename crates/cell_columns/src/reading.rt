@@ -1,13 +1,13 @@
-ghost use Rattle.std.specs.Prelude.{◌≡◌, ◌<◌, ℕ, true, length, IfOk};
+ghost use Rattle.std.specs.Prelude.{◌≡◌, ◌<◌, ◌-◌, ℕ, true, length, IfOk};
 ghost use Rattle.calc_addr.specs.Places.{IsPlace};
-ghost use Rattle.block_column.specs.Kinds.{is_filled};
+ghost use Rattle.block_column.specs.Kinds.{is_filled, lent_slot};
 ghost use Rattle.calc_model.specs.Books.{is_content};
 ghost use Rattle.calc_model.specs.Contents.{is_error_constant};
 ghost use Rattle.calc_model.specs.declared.content.Content.{Content};
 ghost use Rattle.calc_model.specs.declared.value.Value.{Value};
 ghost use Rattle.formula_code.specs.Codes.{IsCodeAt};
 ghost use Rattle.block_column.specs.declared.slot.Slot.{Slot};
-ghost use Rattle.cell_columns.specs.Cells.{column_number, content_of, slot_at};
+ghost use Rattle.cell_columns.specs.Cells.{column_at, column_number, content_of, slot_at};
 ghost use Rattle.cell_columns.specs.Lent.{slots_of};
 
 use crate::cells::column_number;
@@ -17,6 +17,16 @@ use calc_model::{Constant, Content, Fault, Formula, Text, Value};
 use calc_num::Num;
 use formula_code::CodeTable;
 use std::alloc::Global;
+
+/// The slot of a cell, lent.
+pub(crate) fn slot_ref(columns: &[BlockColumn], cell: Cell) -> SlotRef<'_>
+    requires among { column_number cell < length columns.now }
+    requires rows { cell.row - 1 < length (column_at (slots_of columns.now) (column_number cell)) }
+    ensures slot { lent_slot result ≡ slot_at (slots_of columns.now) cell }
+    ensures place { IsPlace cell }
+{
+    columns[column_number(cell)].get(cell.row)
+}
 
 /// What a cell holds. Linear in it.
 pub(crate) fn content_at(

@@ -1,0 +1,97 @@
+//! What cells hold, lent, and the cells that aren't empty.
+ghost use Rattle.std.specs.Prelude.{◌≡◌, ◌≤◌, ◌+◌, ◌-◌, false, length, IfNone, IfOk, IfSome};
+ghost use Rattle.calc_addr.specs.declared.cell.TheConstants.{LAST_ROW};
+ghost use Rattle.calc_model.specs.Books.{IsBook, content_at, is_formula};
+ghost use Rattle.calc_model.specs.CellEdits.{within_area};
+ghost use Rattle.cell_columns.specs.Cells.{cells_only};
+ghost use Rattle.cell_columns.specs.Looks.{AreEmptyBelow, IsCoded, IsLent};
+ghost use Rattle.cell_columns.specs.Walks.{places_of};
+
+use crate::cells::numbers_of;
+use crate::columns::{COLUMNS, CellColumns};
+use crate::counting::count_cells;
+use crate::reading::slot_ref;
+use crate::walking::{empty_below, push_cells};
+use block_column::SlotRef;
+use calc_addr::{Area, Cell, LAST_ROW, NoMemory};
+use calc_model::CodeId;
+use formula_code::CodeTable;
+use std::alloc::Global;
+
+/// A formula's code, with the table that has it.
+#[derive(Clone, Copy)]
+pub struct Coded<'a> {
+    pub codes: &'a CodeTable,
+    pub id: CodeId,
+}
+
+impl CellColumns {
+    /// The cells are those of a book.
+    pub fn are_book(&self)
+        ensures { IsBook (cells_only self.now) }
+    {
+        let _ = self.columns.len();
+    }
+
+    /// What a cell holds, lent. It takes the logarithm of the blocks of its column.
+    pub fn look(&self, cell: Cell) -> SlotRef<'_>
+        ensures { IsLent (content_at (cells_only self.now) cell) result }
+    {
+        slot_ref(&self.columns, cell)
+    }
+
+    /// The code of the formula that a cell holds, if it holds one. It takes the logarithm of the blocks of
+    /// its column.
+    pub fn formula(&self, cell: Cell) -> Option<Coded<'_>>
+        ensures coded { IfSome result (λ f. IsCoded self.now cell f.codes.now f.id) }
+        ensures none { IfNone result (is_formula (content_at (cells_only self.now) cell) ≡ false) }
+    {
+        match slot_ref(&self.columns, cell) {
+            SlotRef::Formula(id) => Some(Coded {
+                codes: &self.table,
+                id,
+            }),
+            _ => None,
+        }
+    }
+
+    /// How many rows from a cell on, down to that row, are empty before the first that isn't. It takes the
+    /// logarithm of the blocks of the column.
+    pub fn empty_rows(&self, start: Cell, last_row: u32) -> u32
+        requires from { start.row ≤ last_row }
+        requires to { last_row ≤ LAST_ROW }
+        ensures most { result ≤ last_row + 1 - start.row }
+        ensures empty { AreEmptyBelow self.now start result }
+    {
+        empty_below(&self.columns, start, last_row)
+    }
+
+    /// How many cells of an area aren't empty. Linear in the blocks of its columns.
+    pub fn count_within(&self, area: Area) -> usize
+        ensures { result ≡ length (within_area self.now area) }
+    {
+        let (from, behind) = numbers_of(area);
+        count_cells(&self.columns, from, behind, area.first_row, area.last_row)
+    }
+
+    /// The cells of an area that aren't empty, in the order of cells. It takes the logarithm of the blocks of
+    /// its column for each.
+    pub fn cells_in(&self, alloc: Global, area: Area) -> Result<Vec<Cell>, NoMemory>
+        ensures { IfOk result (λ cells. cells.items ≡ places_of (within_area self.now area)) }
+    {
+        let (from, behind) = numbers_of(area);
+        let mut cells = Vec::new(alloc);
+        let (first, last) = (area.first_row, area.last_row);
+        push_cells(&self.columns, from, behind, first, last, &mut cells)?;
+        Ok(cells)
+    }
+
+    /// All cells that aren't empty, in the order of cells, at the same cost.
+    pub fn cells(&self, alloc: Global) -> Result<Vec<Cell>, NoMemory>
+        ensures { IfOk result (λ cells. cells.items ≡ places_of self.now) }
+    {
+        let mut cells = Vec::new(alloc);
+        push_cells(&self.columns, 0, COLUMNS, 1, LAST_ROW, &mut cells)?;
+        Ok(cells)
+    }
+}
