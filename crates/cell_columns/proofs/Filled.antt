@@ -19,8 +19,8 @@ use Rattle.block_column.specs.Blocks.{a_block, block_run, blocks_of, kind_key}
 use Rattle.block_column.specs.Kinds.{is_filled, kind_of, same_kind}
 use Rattle.block_column.specs.KindTests.{kinds-decided}
 use Rattle.cell_columns.specs.Cells.{Column, cell_in}
-use Rattle.cell_columns.specs.Uses.{cell_of}
-use Rattle.cell_columns.specs.Walks.{AreEmpty, filled_among, filled_in, holds_something, places_below, rows_in, slot_in}
+use Rattle.cell_columns.specs.Uses.{cell_of, formula_of}
+use Rattle.cell_columns.specs.Walks.{AreEmpty, filled_among, filled_in, formulas_by_blocks, formulas_in_block, holds_formula, holds_something, places_below, rows_in, slot_in}
 use Rattle.cell_columns.proofs.Among.{row, rows_sum, sum_alike, sum_map}
 
 -- a slot is filled as its kind says
@@ -219,3 +219,29 @@ filled_alike first last c from order =
     ∙ ap (sum_by (counts_row first last order)) (take-map kind_key (last + 1 - first) (drop (first - 1) c))
     ∙ sum_map kind_key (counts_row first last order) (rows_in first last c)
     ∙ sum_alike (λ x. counts_row first last order (kind_key x)) cell_of (counts_slot first last order) (rows_in first last c)
+
+kind_formula : (x : Slot) → cond (holds_formula (kind_of x)) 1 0 ≡ formula_of x
+kind_formula slot.Empty = refl
+kind_formula (slot.Number n) = refl
+kind_formula (slot.Words text) = refl
+kind_formula (slot.Bad fault) = refl
+kind_formula (slot.Raw text) = refl
+kind_formula (slot.Formula id) = refl
+
+abbrev formula_row : Option Kind → ℕ
+formula_row = row same_kind kinds-decided holds_formula 1 LAST_ROW (omega arith)
+
+-- the rows that hold a formula, by the blocks
+pub formulas_alike_blocks : (c : Column) → length c ≡ LAST_ROW → formulas_by_blocks (blocks_of c) ≡ sum_by formula_of c
+formulas_alike_blocks c long =
+    sum_map a_block formulas_in_block (runs c)
+    ∙ rows_sum same_kind kinds-decided holds_formula 1 LAST_ROW (omega arith) (omega arith) (keys c)
+    ∙ ap (sum_by formula_row) (take-map kind_key LAST_ROW c ∙ ap (λ xs. map kind_key xs) (take-whole LAST_ROW c (omega (arith, long))))
+    ∙ sum_map kind_key formula_row c
+    ∙ sum_alike (λ x. formula_row (kind_key x)) formula_of kind_formula c
+  where
+    take-whole : {X : Type 0} (n : ℕ) (xs : List X) → length xs ≤ n → take n xs ≡ xs
+    take-whole zero [] h = refl
+    take-whole (suc n) [] h = refl
+    take-whole zero (x ∷ xs) h = absurd (omega (arith, h))
+    take-whole (suc n) (x ∷ xs) h = ap (λ t. x ∷ t) (take-whole n xs (omega (arith, h)))

@@ -17,6 +17,7 @@
 -- Walks: the cells of some rows of columns. Filled: rows that hold something.
 -- CountsMore: cells of an area that are counted and listed.
 -- Looked: what is lent of a cell's content.
+-- Listed: cells that are listed with what they hold.
 -- Told: the cells of columns are those of a book, which slots decide.
 pub mod Orders
 pub mod Found
@@ -43,3 +44,4 @@ pub mod Walks
 pub mod Filled
 pub mod CountsMore
 pub mod Looked
+pub mod Listed

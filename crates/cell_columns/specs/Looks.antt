@@ -1,5 +1,5 @@
 -- What is lent of a cell's content, and the codes by which formulas are kept.
-use Rattle.std.specs.Prelude.{◌≡◌, ℕ, ◌+◌, ◌<◌, List, Option, None}
+use Rattle.std.specs.Prelude.{◌≡◌, ℕ, ◌+◌, ◌<◌, List, map}
 use Rattle.calc_addr.specs.Places.{Place}
 use Rattle.calc_model.specs.declared.tree.Tree.{Tree}
 use Rattle.calc_model.specs.declared.content.Content.{Content}
@@ -29,3 +29,7 @@ pub record IsCoded (cells : CellEntries) (cell : Place) (codes : Codes) (id : �
 -- so many cells of a column from that one on are empty
 abbrev pub AreEmptyBelow : CellEntries → Place → ℕ → Type 0
 AreEmptyBelow cells start count = (k : ℕ) → k < count → content_at (cells_only cells) (record start { row = start.row + k }) ≡ Empty
+
+-- the cells with what they hold
+abbrev pub with_contents : CellEntries → List Place → CellEntries
+with_contents cells places = map (λ q. (q, content_at (cells_only cells) q)) places

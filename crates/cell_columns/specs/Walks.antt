@@ -1,7 +1,9 @@
 -- The rows of a column that hold something, and the cells that they are.
 use Rattle.std.specs.Prelude.{◌≡◌, ◌≤◌, ◌<◌, ℕ, ◌+◌, ◌-◌, Bool, true, false, List, [], ◌∷◌, map, take, drop, max, min, sum_by, if◌then◌else◌, slice_index_or}
 use Rattle.std.specs.List.{filter}
+use Rattle.calc_addr.specs.declared.cell.TheConstants.{LAST_ROW}
 use Rattle.calc_addr.specs.Places.{Place}
+use Rattle.calc_model.specs.Books.{is_formula}
 use Rattle.calc_model.specs.CellEdits.{CellEntries}
 use Rattle.block_column.specs.declared.slot.Slot.{Slot}
 use Rattle.block_column.specs.declared.slot.Slot.TheVariants as slot
@@ -50,9 +52,27 @@ abbrev pub holds_something : Kind → Bool
 holds_something kind.Empty = false
 holds_something _ = true
 
--- how many of the rows from the first to the last the block has that hold something
+-- how many of the rows from the first to the last the block has, and how many that hold something
+abbrev pub block_overlap : ℕ → ℕ → Block → ℕ
+block_overlap first last b = min b.last last + 1 - max b.first first
+
 abbrev pub filled_in : ℕ → ℕ → Block → ℕ
-filled_in first last b = if holds_something b.kind then min b.last last + 1 - max b.first first else 0
+filled_in first last b = if holds_something b.kind then block_overlap first last b else 0
 
 abbrev pub filled_among : ℕ → ℕ → List Block → ℕ
 filled_among first last blocks = sum_by (filled_in first last) blocks
+
+-- how many rows of a block, and of all, hold a formula
+abbrev pub holds_formula : Kind → Bool
+holds_formula kind.Formula = true
+holds_formula _ = false
+
+abbrev pub formulas_in_block : Block → ℕ
+formulas_in_block b = if holds_formula b.kind then block_overlap 1 LAST_ROW b else 0
+
+abbrev pub formulas_by_blocks : List Block → ℕ
+formulas_by_blocks blocks = sum_by formulas_in_block blocks
+
+-- the formulas among cells
+abbrev pub formulas_of : CellEntries → CellEntries
+formulas_of cells = filter (λ entry. is_formula entry.1) cells

@@ -4,17 +4,17 @@ ghost use Rattle.calc_addr.specs.declared.cell.TheConstants.{LAST_ROW};
 ghost use Rattle.calc_model.specs.Books.{IsBook, content_at, is_formula};
 ghost use Rattle.calc_model.specs.CellEdits.{within_area};
 ghost use Rattle.cell_columns.specs.Cells.{cells_only};
-ghost use Rattle.cell_columns.specs.Looks.{AreEmptyBelow, IsCoded, IsLent};
-ghost use Rattle.cell_columns.specs.Walks.{places_of};
+ghost use Rattle.cell_columns.specs.Looks.{AreEmptyBelow, IsCoded, IsLent, with_contents};
+ghost use Rattle.cell_columns.specs.Walks.{formulas_of, places_of};
 
 use crate::cells::numbers_of;
 use crate::columns::{COLUMNS, CellColumns};
-use crate::counting::count_cells;
+use crate::counting::{all_formulas, count_cells};
 use crate::reading::slot_ref;
 use crate::walking::{empty_below, push_cells};
 use block_column::SlotRef;
 use calc_addr::{Area, Cell, LAST_ROW, NoMemory};
-use calc_model::CodeId;
+use calc_model::{CodeId, Content};
 use formula_code::CodeTable;
 use std::alloc::Global;
 
@@ -74,6 +74,13 @@ impl CellColumns {
         count_cells(&self.columns, from, behind, area.first_row, area.last_row)
     }
 
+    /// How many cells hold a formula. Linear in the blocks.
+    pub fn formula_count(&self) -> usize
+        ensures { result ≡ length (formulas_of self.now) }
+    {
+        all_formulas(&self.columns)
+    }
+
     /// The cells of an area that aren't empty, in the order of cells. It takes the logarithm of the blocks of
     /// its column for each.
     pub fn cells_in(&self, alloc: Global, area: Area) -> Result<Vec<Cell>, NoMemory>
@@ -93,5 +100,44 @@ impl CellColumns {
         let mut cells = Vec::new(alloc);
         push_cells(&self.columns, 0, COLUMNS, 1, LAST_ROW, &mut cells)?;
         Ok(cells)
+    }
+
+    /// The cells of an area that aren't empty with copies of what they hold, in the order of cells. It takes
+    /// the logarithm of the blocks of its column for each, and is linear in the contents.
+    pub fn entries_in(
+        &self,
+        alloc: Global,
+        area: Area,
+    ) -> Result<Vec<(Cell, Content)>, NoMemory>
+        ensures { IfOk result (λ entries. entries.items ≡ within_area self.now area) }
+    {
+        let cells = self.cells_in(alloc, area)?;
+        self.are_book();
+        self.with_contents(alloc, &cells)
+    }
+
+    /// All cells that aren't empty with copies of what they hold, at the same cost.
+    pub fn entries(&self, alloc: Global) -> Result<Vec<(Cell, Content)>, NoMemory>
+        ensures { IfOk result (λ entries. entries.items ≡ self.now) }
+    {
+        let cells = self.cells(alloc)?;
+        self.are_book();
+        self.with_contents(alloc, &cells)
+    }
+
+    /// Cells with copies of what they hold.
+    fn with_contents(
+        &self,
+        alloc: Global,
+        cells: &[Cell],
+    ) -> Result<Vec<(Cell, Content)>, NoMemory>
+        ensures { IfOk result (λ entries. entries.items ≡ with_contents self.now cells.now) }
+    {
+        let mut entries = Vec::new(alloc);
+        for cell in cells {
+            let content = self.content(alloc, *cell)?;
+            entries.push((*cell, content))?;
+        }
+        Ok(entries)
     }
 }
