@@ -34,7 +34,7 @@ awk 'BEGIN {
 }' >"$work/numbers"
 
 cp "$top/HANDLES" "$work/"
-for crate in byte_cuts calc_num calc_addr calc_model formula_reader cell_map calc_book; do
+for crate in byte_cuts calc_num calc_addr calc_model formula_reader book_parts calc_book; do
     mkdir -p "$work/crates/$crate"
     cp -r "$top/crates/$crate/"{src,specs,proofs} "$work/crates/$crate/"
     grep "^$crate:" "$top/crates.txt" >>"$work/crates.txt"
@@ -43,7 +43,7 @@ mkdir -p "$work/crates/loading/src"
 for file in "$source"/program/*.rattle; do
     cp "$file" "$work/crates/loading/src/$(basename "$file" .rattle).rt"
 done
-printf 'loading: calc_book cell_map formula_reader calc_model csv anyhow\n' >>"$work/crates.txt"
+printf 'loading: calc_book book_parts formula_reader calc_model csv anyhow\n' >>"$work/crates.txt"
 (cd "$work/crates/loading" && rt run --jobs 1 >/dev/null 2>"$work/log") || {
     cat "$work/log" >&2
     exit 1

@@ -18,7 +18,7 @@ use calc_addr::NoMemory;
 use calc_book::{BookCause, push_cause};
 use calc_io::{DeviceFault, Sink};
 use calc_watch::Watcher;
-use cell_map::CellMap;
+use book_parts::BookParts;
 use std::alloc::Global;
 use workbook::Workbook;
 
@@ -89,7 +89,7 @@ fn refusal_of(alloc: Global, cause: BookCause) -> Result<Vec<u8>, NoMemory>
 #[tactic(auto, unfolding(crate::specs::Ending::calculated))]
 fn answer_script<K: Sink, W: Watcher>(
     alloc: Global,
-    book: CellMap,
+    book: BookParts,
     script: &[u8],
     sink: &mut K,
     stock: Vec<W>,

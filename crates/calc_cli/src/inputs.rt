@@ -12,7 +12,7 @@ use crate::limits::MOST_SCRIPT_BYTES;
 use calc_book::{BookCause, BookFault, MOST_BYTES, load};
 use calc_io::{Desk, DeviceFault};
 use calc_model::Text;
-use cell_map::CellMap;
+use book_parts::BookParts;
 use std::alloc::Global;
 use std::thread::Threads;
 
@@ -20,7 +20,7 @@ use std::thread::Threads;
 #[derive(Drop)]
 pub(crate) enum Inputs {
     /// The book and the script.
-    Loaded(CellMap, Vec<u8>),
+    Loaded(BookParts, Vec<u8>),
     /// The book is refused.
     Refused(BookCause),
     /// The script is too long.
@@ -32,7 +32,7 @@ fn book_of<R: Threads + Sync>(
     rt: &R,
     alloc: Global,
     bytes: &[u8],
-) -> Result<Result<CellMap, BookCause>, DeviceFault>
+) -> Result<Result<BookParts, BookCause>, DeviceFault>
     ensures read { IfOk result (λ book. IsLoaded book bytes.now) }
     ensures memory { HasFailed result → ⊥ }
 {
@@ -93,7 +93,7 @@ fn load_book<R: Threads + Sync, D: Desk>(
     alloc: Global,
     desk: &mut D,
     name: &Text,
-) -> Result<Result<CellMap, BookCause>, DeviceFault>
+) -> Result<Result<BookParts, BookCause>, DeviceFault>
     ensures told { (bytes : List ℕ) → told_book (D.books desk.old) name.now ≡ Some bytes
         → IfOk result (λ book. IsLoaded book bytes) }
     ensures some_book { IfOk result (λ book. (bytes : List ℕ) × IsLoaded book bytes) }

@@ -104,11 +104,7 @@ impl CellColumns {
 
     /// The cells of an area that aren't empty with copies of what they hold, in the order of cells. It takes
     /// the logarithm of the blocks of its column for each, and is linear in the contents.
-    pub fn entries_in(
-        &self,
-        alloc: Global,
-        area: Area,
-    ) -> Result<Vec<(Cell, Content)>, NoMemory>
+    pub fn entries_in(&self, alloc: Global, area: Area) -> Result<Vec<(Cell, Content)>, NoMemory>
         ensures { IfOk result (λ entries. entries.items ≡ within_area self.now area) }
     {
         let cells = self.cells_in(alloc, area)?;
@@ -126,11 +122,7 @@ impl CellColumns {
     }
 
     /// Cells with copies of what they hold.
-    fn with_contents(
-        &self,
-        alloc: Global,
-        cells: &[Cell],
-    ) -> Result<Vec<(Cell, Content)>, NoMemory>
+    fn with_contents(&self, alloc: Global, cells: &[Cell]) -> Result<Vec<(Cell, Content)>, NoMemory>
         ensures { IfOk result (λ entries. entries.items ≡ with_contents self.now cells.now) }
     {
         let mut entries = Vec::new(alloc);

@@ -1,5 +1,5 @@
 -- The cells of an area are known where those entries of a map are that the area covers.
-use Rattle.std.proofs.Common.{◌≡◌, Bool, true, false, not, ◌||◌, ◌&&◌, List, [], ◌∷◌, refl, sym}
+use Rattle.std.proofs.Common.{◌≡◌, Bool, true, false, not, ◌||◌, ◌&&◌, List, [], ◌∷◌, refl, sym, ap, ◌∙◌}
 use Rattle.std.specs.List.{list_all}
 use Rattle.calc_addr.specs.Places.{Place, Rectangle, covers, places}
 use Rattle.calc_model.specs.declared.content.Content.{Content}
@@ -7,6 +7,7 @@ use Rattle.calc_model.specs.Books.{Book, content_at}
 use Rattle.calc_model.specs.Results.{Results, is_known}
 use Rattle.calc_model.proofs.Areas.{places_all, all_places}
 use Rattle.calc_model.proofs.Knowing.{unknown}
+use Rattle.cell_columns.specs.Walks.{places_of}
 use Rattle.plain_evaluator.proofs.Sweeps.{list_all-find, found_entry}
 
 -- the area doesn't cover the cell, or the cell is known
@@ -57,6 +58,14 @@ module _ (book : Book) (results : Results) (area : Rectangle) where
   -- the cells of the area are known where the entries are that it covers
   pub entries_known : list_all (λ entry. is_covered_known book results area entry.0) book.cells ≡ list_all known (places area)
   entries_known = same_tests _ _ to_places from_places
+
+  places_alike : (es : List (Place × Content)) → list_all (is_covered_known book results area) (places_of es) ≡ list_all (λ entry. is_covered_known book results area entry.0) es
+  places_alike [] = refl
+  places_alike (e ∷ es) = ap (λ b. is_covered_known book results area e.0 && b) (places_alike es)
+
+  -- the same, by the places of the entries
+  pub held_known : list_all (is_covered_known book results area) (places_of book.cells) ≡ list_all known (places area)
+  held_known = places_alike book.cells ∙ entries_known
 
 -- an entry that is covered and not known fails the test of all
 pub fails_first : (covered known rest : Bool) → covered ≡ true → known ≡ false → ((not covered || known) && rest) ≡ false

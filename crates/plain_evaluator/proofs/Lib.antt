@@ -6,5 +6,3 @@ pub mod Formulas
 pub mod Sweeps
 -- areas whose cells are known
 pub mod Covered
--- codes: a table that is empty but for the one that is run
-pub mod Codes

@@ -1,5 +1,5 @@
 -- Formulas with what they read, and results of formulas on the way to all of them.
-use Rattle.std.specs.Prelude.{◌≡◌, ℕ, ◌||◌, not, true, List, length, map, None}
+use Rattle.std.specs.Prelude.{◌≡◌, ℕ, ◌||◌, not, true, List, length, map}
 use Rattle.std.specs.List.{All, filter, list_any}
 use Rattle.std.specs.Ordering.{eq_by_cmp}
 use Rattle.calc_addr.specs.Places.{Place, Rectangle, place_cmp}
@@ -11,7 +11,6 @@ use Rattle.calc_model.specs.Reads.{reads}
 use Rattle.calc_model.specs.Results.{Results, is_known, is_ready, shown_by}
 use Rattle.calc_model.specs.Stale.{is_formula_cell}
 use Rattle.calc_model.specs.Touched.{CellSet}
-use Rattle.formula_code.specs.Codes.{Codes, code_at}
 
 -- the formulas of a book in the order of cells, each with the areas that it reads
 abbrev pub readers_of : Book → List (Place × List Rectangle)
@@ -30,10 +29,6 @@ pub record AreReaders (book : Book) (readers : List (Place × List Rectangle)) :
 -- the value of a formula at home by these results
 abbrev pub value_by : Book → Results → Place → Tree → Value
 value_by book results home tree = eval home (area_named book) (shown_by book results) tree
-
--- no code is live
-abbrev pub IsEmpty : Codes → Type 0
-IsEmpty codes = (id : ℕ) → code_at codes id ≡ None
 
 -- how many cells of the book are known
 unfoldable pub known_count : Book → Results → ℕ

@@ -3,16 +3,16 @@ ghost use Rattle.std.specs.List.{flat_map};
 ghost use Rattle.calc_model.specs.Reads.{areas};
 ghost use Rattle.calc_model.specs.Books.{area_named};
 
+use book_parts::BookParts;
 use calc_addr::{Area, Cell, NoMemory};
 use calc_model::{Looked, NameTable, Tree};
-use cell_map::CellMap;
 
 /// Appends the areas that a formula at `home` reads, in order of writing. Linear in the tree, and the
 /// logarithm of the names for each name in it. Where memory is refused, some of them may stand in `out`.
 #[cycle(reading)]
 #[tactic(auto, using(crate::proofs::TreeAreas::tree_areas))]
 pub(crate) fn push_areas(
-    cells: &CellMap,
+    cells: &BookParts,
     home: Cell,
     tree: &Tree,
     out: &mut Vec<Area>,
@@ -42,7 +42,7 @@ pub(crate) fn push_areas(
 
 #[cycle(reading)]
 fn push_all_areas(
-    cells: &CellMap,
+    cells: &BookParts,
     home: Cell,
     trees: &[Tree],
     out: &mut Vec<Area>,

@@ -3,9 +3,9 @@ ghost use Rattle.plain_evaluator.specs.Plain.{AreReaders};
 
 use crate::areas::push_areas;
 use crate::order::reading_order;
+use book_parts::BookParts;
 use calc_addr::{Area, Cell, NoMemory};
 use calc_model::Content;
-use cell_map::CellMap;
 use std::alloc::Global;
 use std::marker::Model;
 
@@ -42,7 +42,7 @@ impl Reader {
 }
 
 /// The formulas of a map of cells, each after those that it reads where it is in no circle.
-pub fn readers(alloc: Global, cells: &CellMap) -> Result<Vec<Reader>, NoMemory>
+pub fn readers(alloc: Global, cells: &BookParts) -> Result<Vec<Reader>, NoMemory>
     ensures { IfOk result (λ readers. AreReaders cells.now readers.items) }
 {
     let mut readers = in_cell_order(alloc, cells)?;
@@ -65,11 +65,12 @@ fn set_ranks(readers: &mut [Reader], order: &[usize])
 }
 
 /// The formulas in the order of cells.
-fn in_cell_order(alloc: Global, cells: &CellMap) -> Result<Vec<Reader>, NoMemory>
+fn in_cell_order(alloc: Global, cells: &BookParts) -> Result<Vec<Reader>, NoMemory>
     ensures { IfOk result (λ readers. AreReaders cells.now readers.items) }
 {
     let mut readers = Vec::new(alloc);
-    for (cell, content) in cells.iter() {
+    let entries = cells.entries(alloc)?;
+    for (cell, content) in &entries {
         if let Content::Formula(formula) = content {
             let mut areas = Vec::new(alloc);
             push_areas(cells, *cell, formula.tree(), &mut areas)?;

@@ -17,8 +17,8 @@ use Rattle.calc_model.proofs.Areas.{both_true}
 use Rattle.calc_model.proofs.EntriesKept.{both_so}
 use Rattle.calc_model.proofs.Places.{same_places}
 use Rattle.calc_model.proofs.Reached.{same_cell}
-use Rattle.cell_map.proofs.Copied.{copies_land, copy_is, fills_land}
-use Rattle.cell_map.proofs.Lookups.{find-lookup}
+use Rattle.book_parts.proofs.Copied.{copies_land, copy_is, fills_land}
+use Rattle.book_parts.proofs.Lookups.{find-lookup}
 
 -- cells that differ differ in either order
 apart_from : (cell q : Place) → eq_by_cmp place_cmp cell q ≡ false → (other : Place) → cell ≡ other → eq_by_cmp place_cmp q other ≡ false

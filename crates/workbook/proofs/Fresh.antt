@@ -19,7 +19,7 @@ use Rattle.calc_model.specs.Touched.{moved, origin, touched}
 use Rattle.calc_model.specs.Val.{cell_value, val}
 use Rattle.calc_model.proofs.ShiftedReads.{neither}
 use Rattle.calc_model.proofs.Shown.{val_by_reads}
-use Rattle.cell_map.specs.ResultMap.{results_of}
+use Rattle.book_parts.specs.ResultMap.{results_of}
 use Rattle.workbook.specs.Workbook.{IsFresh, Made, State, stale_of, values_of}
 use Rattle.workbook.proofs.Unreached.{apart, clean, clean_of, reads_clean, same_shown}
 

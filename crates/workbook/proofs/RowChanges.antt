@@ -32,7 +32,7 @@ use Rattle.calc_model.proofs.RowsKept.{home_is}
 use Rattle.calc_model.proofs.ShiftedReads.{deletion_stays, insertion_stays}
 use Rattle.std.specs.BTreeMap.{is_at}
 use Rattle.std.proofs.lemmas.Map.Entries.{lookup-filter-keys}
-use Rattle.cell_map.proofs.Lookups.{find-lookup}
+use Rattle.book_parts.proofs.Lookups.{find-lookup}
 use Rattle.plain_evaluator.specs.Plain.{AreReaders, IsReader}
 use Rattle.plain_evaluator.proofs.Covered.{same_tests}
 use Rattle.plain_evaluator.proofs.Formulas.{Reading}

@@ -13,7 +13,7 @@ use Rattle.calc_model.specs.Step.{step}
 use Rattle.calc_model.specs.Stale.{is_formula_cell, reaches, stale_after}
 use Rattle.calc_model.specs.Touched.{CellSet}
 use Rattle.calc_model.specs.Val.{val}
-use Rattle.cell_map.specs.ResultMap.{results_of}
+use Rattle.book_parts.specs.ResultMap.{results_of}
 use Rattle.workbook.specs.Touched.{Parts, is_touched}
 
 pub record State : Type 0 where

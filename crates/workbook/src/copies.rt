@@ -8,9 +8,9 @@ ghost use Rattle.workbook.specs.Workbook.{IsRefused, Made};
 
 use crate::fault::EditFault;
 use crate::workbook::Workbook;
+use book_parts::{area_at, lies_inside};
 use calc_addr::{Area, Cell, NoMemory};
 use calc_model::{Edit, EditCause, MOST_CELLS};
-use cell_map::{area_at, lies_inside};
 use std::alloc::Global;
 
 impl Workbook {

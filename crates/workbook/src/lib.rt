@@ -1,4 +1,4 @@
-//! A workbook as a plain map of cells: edits, which formulas they make stale, and recalculation from
+//! A workbook: edits of a book, which formulas they make stale, and recalculation from
 //! scratch.
 #![tactic(auto)]
 

@@ -6,10 +6,10 @@ ghost use Rattle.workbook.specs.Workbook.{IsRefused, Made};
 use crate::fault::EditFault;
 use crate::touched::Touched;
 use crate::workbook::Workbook;
+use book_parts::BookParts;
 use calc_addr::{Area, NoMemory};
 use calc_model::{Edit, EditCause, MOST_GENERATED_ROWS, Text};
 use calc_names::NameFault;
-use cell_map::CellMap;
 use std::alloc::Global;
 
 impl Workbook {
@@ -59,7 +59,7 @@ impl Workbook {
         ensures no_memory { IsErrOf result EditFault.NoMemory → self.new.dead ≡ true }
         ensures not_dead { IsErrOf result EditFault.Dead → ⊥ }
     {
-        match CellMap::generated(alloc, start, rows) {
+        match BookParts::generated(alloc, start, rows) {
             Ok(cells) => {
                 self.cells = cells;
                 self.touched = Touched::all(alloc);

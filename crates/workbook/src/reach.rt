@@ -8,8 +8,8 @@ ghost use Rattle.workbook.specs.Touched.{contains_cell, is_touched, lies_in};
 
 use crate::touched::{Touched, has_cell_in};
 use crate::users::users;
+use book_parts::BookParts;
 use calc_addr::{Area, Cell, NoMemory};
-use cell_map::CellMap;
 use plain_evaluator::{Reader, readers};
 use std::alloc::Global;
 use std::collections::BTreeSet;
@@ -22,7 +22,7 @@ use std::collections::BTreeSet;
 /// the lesser of the area's cells and the cells that are touched or found.
 pub(crate) fn reached(
     alloc: Global,
-    cells: &CellMap,
+    cells: &BookParts,
     touched: &Touched,
 ) -> Result<BTreeSet<Cell>, NoMemory>
     ensures { IfOk result (λ found. (q : Place) → contains_cell found.keys q

@@ -1,11 +1,11 @@
 //! The cells that edits touched since the last recalculation.
-ghost use Rattle.std.specs.Prelude.{ℕ, ◌≡◌, ◌||◌, [], List, true, false, not, IfOk, IfSome, OnOk, OnErr};
+ghost use Rattle.std.specs.Prelude.{ℕ, ◌≡◌, ◌||◌, ◌++◌, ◌∷◌, [], List, true, false, not, IfOk, IfSome, OnOk, OnErr};
 ghost use Rattle.std.specs.BTreeMap.{is_at};
 ghost use Rattle.std.specs.BTreeSet.{insert_key};
 ghost use Rattle.std.specs.Set.{remove_key};
 ghost use Rattle.std.specs.List.{list_any};
 ghost use Rattle.std.specs.Ordering.{eq_by_cmp};
-ghost use Rattle.calc_addr.specs.Places.{Place, covers, place_cmp, places};
+ghost use Rattle.calc_addr.specs.Places.{Place, Rectangle, covers, place_cmp, places};
 ghost use Rattle.calc_model.specs.UsedNames.{is_same_name};
 ghost use Rattle.workbook.specs.Touched.{contains_cell, has_name, lies_in};
 
@@ -104,6 +104,26 @@ impl Touched {
             None => self.areas.push(area)?,
         }
         Ok(())
+    }
+
+    /// Adds the cells of an area as an area.
+    pub(crate) fn push_area(&mut self, area: Area) -> Result<(), NoMemory>
+        ensures touched { OnOk result ((q : Place) →
+            lies_in self.new q ≡ (lies_in self.old q || covers area q)) }
+        ensures parts { OnOk result
+            (self.new ≡ record self.old { areas = self.old.areas ++ area ∷ [] }) }
+        ensures err { OnErr result (self.new ≡ self.old) }
+    {
+        self.areas.push(area)?;
+        Ok(())
+    }
+
+    /// Takes away the area that was added last.
+    pub(crate) fn pop_area(&mut self)
+        ensures { (areas : List Rectangle) (last : Rectangle) → self.old.areas ≡ areas ++ last ∷ []
+            → self.new ≡ record self.old { areas = areas } }
+    {
+        self.areas.pop();
     }
 
     /// Adds the cells whose formulas use the name.

@@ -8,8 +8,8 @@ ghost use Rattle.workbook.specs.Readers.{is_user_at};
 ghost use Rattle.workbook.specs.Touched.{contains_cell, uses_any};
 
 use crate::names::NameSet;
+use book_parts::BookParts;
 use calc_addr::{Cell, NoMemory};
-use cell_map::CellMap;
 use plain_evaluator::Reader;
 use std::alloc::Global;
 use std::collections::BTreeSet;
@@ -18,7 +18,7 @@ use std::collections::BTreeSet;
 /// and the logarithm of the names for each name in them; where there is no name it takes no time.
 pub(crate) fn users(
     alloc: Global,
-    cells: &CellMap,
+    cells: &BookParts,
     readers: &[Reader],
     names: &NameSet,
 ) -> Result<BTreeSet<Cell>, NoMemory>
@@ -32,14 +32,15 @@ pub(crate) fn users(
     }
     let mut key = String::new(alloc);
     for reader in readers {
-        add_user(cells, reader, names, &mut key, &mut found)?;
+        add_user(alloc, cells, reader, names, &mut key, &mut found)?;
     }
     Ok(found)
 }
 
 /// Adds the reader where it uses one of the names.
 fn add_user(
-    cells: &CellMap,
+    alloc: Global,
+    cells: &BookParts,
     reader: &Reader,
     names: &NameSet,
     key: &mut String,
@@ -48,18 +49,22 @@ fn add_user(
     ensures { OnOk result ((q : Place) → contains_cell found.new.keys q
         ≡ (contains_cell found.old.keys q || is_user_at cells.now names.now q reader.now)) }
 {
-    if uses_at(cells, reader.cell(), names, key)? {
+    if uses_at(alloc, cells, reader.cell(), names, key)? {
         found.insert(reader.cell())?;
     }
     Ok(())
 }
 
 /// Whether the formula of a cell uses one of the names.
-fn uses_at(cells: &CellMap, cell: Cell, names: &NameSet, key: &mut String) -> Result<bool, NoMemory>
+fn uses_at(
+    alloc: Global,
+    cells: &BookParts,
+    cell: Cell,
+    names: &NameSet,
+    key: &mut String,
+) -> Result<bool, NoMemory>
     ensures { IfOk result (λ uses. uses ≡ uses_any names.now (content_at cells.now cell)) }
 {
-    match cells.get(cell) {
-        Some(content) => names.is_used_by(content, key),
-        None => Ok(false),
-    }
+    let content = cells.content(alloc, cell)?;
+    names.is_used_by(&content, key)
 }

@@ -1,5 +1,6 @@
-//! A workbook as a plain map of cells.
+//! A workbook: its parts, what they show, and the edits of both.
 ghost use Rattle.std.specs.Prelude.{◌≡◌, ◌≤◌, ◌↔◌, ◌++◌, [], length, IfOk, IsErrOf, OnOk, OnErr, false, true};
+ghost use Rattle.std.specs.List.{filter};
 ghost use Rattle.calc_addr.specs.Places.{Place};
 ghost use Rattle.calc_model.specs.Books.{content_at, formula_count, with_content};
 ghost use Rattle.calc_model.specs.Step.{is_makeable};
@@ -7,7 +8,7 @@ ghost use Rattle.calc_model.specs.Stale.{count_in, is_formula_cell};
 ghost use Rattle.calc_model.specs.Printed.{printed_content};
 ghost use Rattle.calc_model.specs.Val.{val};
 ghost use Rattle.calc_model.specs.ValueTexts.{lent};
-ghost use Rattle.cell_map.specs.ShownCells.{shown_values};
+ghost use Rattle.book_parts.specs.ShownCells.{shown_values};
 ghost use Rattle.calc_model.specs.declared.edit.EditCause.{EditCause};
 ghost use Rattle.workbook.specs.Touched.{contains_cell};
 ghost use Rattle.workbook.specs.Workbook.{AfterNoMemory, IsFresh, IsRefused, Made, WasBook, stale_of, values_of};
@@ -15,21 +16,22 @@ ghost use Rattle.workbook.specs.Workbook.{AfterNoMemory, IsFresh, IsRefused, Mad
 use crate::fault::EditFault;
 use crate::reach::reached;
 use crate::touched::Touched;
+use book_parts::{BookParts, ResultMap, ShownCells, shown};
 use calc_addr::{Area, Cell, NoMemory};
 use calc_model::{Content, Edit, EditCause, MOST_CELLS, Seen};
-use cell_map::{CellMap, ResultMap, ShownCells, shown};
 use formula_printer::print_content;
 use plain_evaluator::evaluate;
 use std::alloc::Global;
 use std::collections::BTreeSet;
 use std::marker::Model;
 
-/// A book as a plain map of its cells and its names, the results of the last recalculation, what edits
+/// The parts of a book, the results of the last recalculation, what edits
 /// touched since then, and whether it is dead. Contracts see all four; `stale_of` says which formulas are
 /// stale, and `values_of` what cells show by the results.
 #[derive(Drop)]
 pub struct Workbook {
-    pub(crate) cells: CellMap,
+    alloc: Global,
+    pub(crate) cells: BookParts,
     results: ResultMap,
     pub(crate) touched: Touched,
     dead: bool,
@@ -63,29 +65,32 @@ impl Model for Workbook {
 
 impl Workbook {
     /// The workbook without cells and names.
-    pub fn new(alloc: Global) -> Workbook
-        ensures cells { result.book.cells ≡ [] }
-        ensures names { result.book.names ≡ [] }
-        ensures stale { (q : Place) → stale_of result q ≡ false }
-        ensures fresh { IsFresh result }
-        ensures alive { result.dead ≡ false }
+    pub fn new(alloc: Global) -> Result<Workbook, NoMemory>
+        ensures cells { IfOk result (λ w. w.book.cells ≡ []) }
+        ensures names { IfOk result (λ w. w.book.names ≡ []) }
+        ensures stale { IfOk result (λ w. (q : Place) → stale_of w q ≡ false) }
+        ensures fresh { IfOk result (λ w. IsFresh w) }
+        ensures alive { IfOk result (λ w. w.dead ≡ false) }
     {
-        Workbook {
-            cells: CellMap::new(alloc),
+        let cells = BookParts::new(alloc)?;
+        Ok(Workbook {
+            alloc,
+            cells,
             results: ResultMap::new(alloc),
             touched: Touched::none(alloc),
             dead: false,
-        }
+        })
     }
 
     /// The workbook of these cells, whose formulas are all stale.
-    pub fn load(alloc: Global, cells: CellMap) -> Workbook
+    pub fn load(alloc: Global, cells: BookParts) -> Workbook
         ensures book { result.book ≡ cells }
         ensures stale { (q : Place) → stale_of result q ≡ is_formula_cell cells q }
         ensures fresh { IsFresh result }
         ensures alive { result.dead ≡ false }
     {
         Workbook {
+            alloc,
             cells,
             results: ResultMap::new(alloc),
             touched: Touched::all(alloc),
@@ -185,15 +190,14 @@ impl Workbook {
         }
     }
 
-    /// Sets a cell to a copy of the content.
+    /// Sets a cell to the content.
     fn put(&mut self, alloc: Global, cell: Cell, content: &Content) -> Result<(), NoMemory>
         requires room { length (with_content self.old.book.cells cell content.now) ≤ MOST_CELLS }
         ensures done { OnOk result (Made self.old (Edit.Set cell content.now) self.new) }
         ensures kept { OnErr result (self.new ≡ self.old) }
     {
-        let content = content.copy(alloc)?;
         let added = self.touched.add_cell(cell)?;
-        match self.cells.set(cell, content) {
+        match self.cells.set(alloc, cell, content) {
             Ok(()) => Ok(()),
             Err(refused) => {
                 if added {
@@ -211,12 +215,24 @@ impl Workbook {
         ensures no_memory { IsErrOf result EditFault.NoMemory → self.new ≡ self.old }
         ensures not_dead { IsErrOf result EditFault.Dead → ⊥ }
     {
-        match self.touched.add_area(area) {
-            Ok(()) => {
-                self.cells.clear(area);
-                Ok(())
-            }
+        match self.empty(area) {
+            Ok(()) => Ok(()),
             Err(_) => Err(EditFault::NoMemory),
+        }
+    }
+
+    /// Empties the cells of an area.
+    fn empty(&mut self, area: Area) -> Result<(), NoMemory>
+        ensures done { OnOk result (Made self.old (Edit.Clear area) self.new) }
+        ensures kept { OnErr result (self.new ≡ self.old) }
+    {
+        self.touched.push_area(area)?;
+        match self.cells.clear(area) {
+            Ok(()) => Ok(()),
+            Err(refused) => {
+                self.touched.pop_area();
+                Err(refused)
+            }
         }
     }
 
@@ -235,7 +251,7 @@ impl Workbook {
         ensures { IfOk result (λ count. count ≡ count_in self.now.book (stale_of self.now)) }
     {
         let found = reached(alloc, &self.cells, &self.touched)?;
-        Ok(count_found(&self.cells, &found))
+        count_found(alloc, &self.cells, &found)
     }
 
     /// Evaluates all formulas from scratch. None is stale afterwards, and every cell has its value. Where
@@ -277,23 +293,29 @@ impl Workbook {
         ShownCells::of(&self.cells, &self.results)
     }
 
-    /// Appends the printed content of a cell. It takes the logarithm of the cells, and is linear in what is
-    /// printed. Where memory is refused, `out` is as before.
+    /// Appends the printed content of a cell. It takes the logarithm of the blocks of its column, and is
+    /// linear in what is printed. Where memory is refused, `out` is as before.
     pub fn formula(&self, cell: Cell, out: &mut Vec<u8>) -> Result<(), NoMemory>
         ensures ok { OnOk result (out.new.items
             ≡ out.old.items ++ printed_content (content_at self.now.book cell)) }
         ensures err { OnErr result (out.new.items ≡ out.old.items) }
     {
-        match self.cells.get(cell) {
-            Some(content) => print_content(content, out),
-            None => Ok(()),
-        }
+        let content = self.cells.content(self.alloc, cell)?;
+        print_content(&content, out)
     }
 }
 
-/// How many cells of the map are in the set.
-fn count_found(cells: &CellMap, found: &BTreeSet<Cell>) -> usize
-    ensures { result ≡ count_in cells.now (contains_cell found.now.keys) }
+/// How many cells that aren't empty are in the set.
+fn count_found(alloc: Global, cells: &BookParts, found: &BTreeSet<Cell>) -> Result<usize, NoMemory>
+    ensures { IfOk result (λ count. count ≡ count_in cells.now (contains_cell found.now.keys)) }
 {
-    cells.iter().filter(|entry| found.contains(entry.0)).count()
+    let held = cells.cells(alloc)?;
+    Ok(count_among(&held, found))
+}
+
+/// How many of these cells are in the set.
+fn count_among(cells: &[Cell], found: &BTreeSet<Cell>) -> usize
+    ensures { result ≡ length (filter (contains_cell found.now.keys) cells.now) }
+{
+    cells.iter().filter(|cell| found.contains(*cell)).count()
 }

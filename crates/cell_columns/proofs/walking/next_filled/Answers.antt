@@ -31,9 +31,8 @@ returns-then-last-block-clause-none c =
 
 pub loop-row-preserved : goal.loop-row-preserved
 loop-row-preserved c =
-    let at = c.in-Some.ensures in
-    (
+    let at = c.in-Some.ensures in (
       omega (arith, c.loop-row.invariant.0, at.to),
       more_empty c.args.column.now.slots c.blocks-in-loop-row.result.now c.blocks-in-loop-row.ensures c.requires.rows c.in-Some.block at.held (sym c.holds_something.ensures ∙ c.if-holds_something.false)
-      c.args.first c.loop-row.row (c.in-Some.block.last + 1) c.requires.from at.from (omega arith) (omega (arith, c.if-last-block.false, c.requires.to)) c.loop-row.invariant.1,
+          c.args.first c.loop-row.row (c.in-Some.block.last + 1) c.requires.from at.from (omega arith) (omega (arith, c.if-last-block.false, c.requires.to)) c.loop-row.invariant.1,
     )

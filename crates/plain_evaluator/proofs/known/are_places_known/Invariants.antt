@@ -2,7 +2,7 @@ use Rattle.std.proofs.Common.{◌≡◌}
 use Rattle.std.specs.List.{list_all}
 use Rattle.calc_addr.specs.Places.{places}
 use Rattle.calc_model.specs.Results.{is_known}
-use Rattle.cell_map.specs.ResultMap.{results_of}
+use Rattle.book_parts.specs.ResultMap.{results_of}
 use Rattle.plain_evaluator.proofs.known.are_places_known.Given as goal
 
 -- the cells so far are known

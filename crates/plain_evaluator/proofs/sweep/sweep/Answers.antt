@@ -1,5 +1,5 @@
 use Rattle.std.proofs.Common.{sym, subst}
-use Rattle.cell_map.specs.ResultMap.{results_of}
+use Rattle.book_parts.specs.ResultMap.{results_of}
 use Rattle.calc_model.specs.Results.{IsFinished}
 use Rattle.plain_evaluator.specs.Plain.{IsReader, is_settled}
 use Rattle.plain_evaluator.proofs.Formulas.{all_dropped}

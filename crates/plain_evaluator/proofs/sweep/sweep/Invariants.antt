@@ -1,8 +1,8 @@
 use Rattle.std.proofs.Common.{◌≡◌, ◌<◌, ◌≤◌, true, false, drop}
 use Rattle.std.specs.List.{list_all}
 use Rattle.calc_model.specs.Results.{IsSound}
-use Rattle.cell_map.specs.ResultMap.{results_of}
-use Rattle.plain_evaluator.specs.Plain.{IsEmpty, known_count, is_settled}
+use Rattle.book_parts.specs.ResultMap.{results_of}
+use Rattle.plain_evaluator.specs.Plain.{known_count, is_settled}
 use Rattle.plain_evaluator.proofs.sweep.sweep.Given as goal
 
 -- each formula so far is settled, as long as there is no new result
@@ -13,7 +13,6 @@ invariant-loop-reader l =
     let now = results_of l.results in
     let settled = list_all (λ reader. is_settled book first reader.0) in
     record {
-      empty : IsEmpty l.codes;
       sound : IsSound book now;
       no_less : known_count book first ≤ known_count book now;
       more : l.more ≡ true → known_count book first < known_count book now;

@@ -15,7 +15,7 @@ returns c =
     c.in_ok-push_cells.ensures codes
     ∙ ap (λ ps. ps ++ places_of (within_rows 0 COLUMNS 1 LAST_ROW (cells_of codes (slots_of c.deref.result.now)))) c.new-cells.ensures.items
     ∙ ap places_of (
-      ap (λ cs. within_rows 0 COLUMNS 1 LAST_ROW (cells_of codes (slots_of cs))) c.deref.ensures.value
-      ∙ all_within (cells_of codes columns) (entries_are codes columns c.self.invariant.sheets)
-      ∙ c.self.view_is
+    ap (λ cs. within_rows 0 COLUMNS 1 LAST_ROW (cells_of codes (slots_of cs))) c.deref.ensures.value
+    ∙ all_within (cells_of codes columns) (entries_are codes columns c.self.invariant.sheets)
+    ∙ c.self.view_is
     )

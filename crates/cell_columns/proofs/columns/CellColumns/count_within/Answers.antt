@@ -22,8 +22,8 @@ returns c =
     let columns = slots_of c.self.inside.columns.items in
     c.count_cells.ensures codes
     ∙ ap length (
-      ap (λ (a : Rectangle). within_rows from behind a.first_row a.last_row (cells_of codes (slots_of c.deref.result.now))) c.area.view_is
-      ∙ ap (λ cs. within_rows from behind c.args.area.first_row c.args.area.last_row (cells_of codes (slots_of cs))) c.deref.ensures.value
-      ∙ within_covered c.args.area c.numbers_of-from.ensures.area from behind c.numbers_of-from.ensures.from c.numbers_of-from.ensures.behind (cells_of codes columns) (entries_are codes columns c.self.invariant.sheets)
-      ∙ ap (λ (es : CellEntries). within_area es c.args.area) c.self.view_is
+    ap (λ (a : Rectangle). within_rows from behind a.first_row a.last_row (cells_of codes (slots_of c.deref.result.now))) c.area.view_is
+    ∙ ap (λ cs. within_rows from behind c.args.area.first_row c.args.area.last_row (cells_of codes (slots_of cs))) c.deref.ensures.value
+    ∙ within_covered c.args.area c.numbers_of-from.ensures.area from behind c.numbers_of-from.ensures.from c.numbers_of-from.ensures.behind (cells_of codes columns) (entries_are codes columns c.self.invariant.sheets)
+    ∙ ap (λ (es : CellEntries). within_area es c.args.area) c.self.view_is
     )

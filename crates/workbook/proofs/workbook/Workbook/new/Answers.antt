@@ -6,4 +6,4 @@ pub returns-clause-stale : goal.returns-clause-stale
 returns-clause-stale c = none_stale _ c.none.ensures.cells c.none.ensures.names
 
 pub returns-clause-fresh : goal.returns-clause-fresh
-returns-clause-fresh c = fresh_unwritten _ c.new.ensures.cells
+returns-clause-fresh c = fresh_unwritten _ c.in_ok-cells.ensures.cells

@@ -16,7 +16,7 @@ pub returns-in-Ok-clause-done : goal.returns-in-Ok-clause-done
 returns-in-Ok-clause-done c =
     let before : State = record { book = c.self.inside.cells; results = c.self.inside.results; touched = c.self.inside.touched; dead = c.self.inside.dead } in
     let after : State = record { book = c.set.new.self; results = c.self.inside.results; touched = c.add_cell.new.self; dead = c.self.inside.dead } in
-    let cells = c.in-Ok.ensures.cells ∙ ap (with_content before.book.cells c.args.cell) c.in_ok-content.ensures in
+    let cells = c.in-Ok.ensures.cells in
     let room : length (with_content before.book.cells c.args.cell c.args.content.now) ≤ MOST_CELLS = subst (λ (state : State). length (with_content state.book.cells c.args.cell c.args.content.now) ≤ MOST_CELLS) (sym c.self.view_is) c.requires.room in
     subst (λ state. Made state (Set c.args.cell c.args.content.now) after) c.self.view_is (record {
       step = set_step before.book after.book c.args.cell c.args.content.now cells c.set.ensures.names room;

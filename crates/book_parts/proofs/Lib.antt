@@ -1,0 +1,17 @@
+-- rows that hold nothing
+pub mod EmptyRows
+-- looking a key up
+pub mod Lookups
+-- books of cells without names
+mod Contents
+-- whether there is room for a content
+mod Lengths
+-- one item after the other
+mod Steps
+pub mod Inserted
+pub mod Copied
+pub mod Shifted
+-- cells that are pushed out of the sheet
+mod PushedOut
+-- the generated book
+mod ColumnEntries
