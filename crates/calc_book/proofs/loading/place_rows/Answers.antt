@@ -1,5 +1,5 @@
 -- A row's contents are put into its cells.
-use Rattle.std.proofs.Common.{◌+◌, ◌≤◌, List, length, map, sym, ap, subst, ◌∙◌, arith, Vec}
+use Rattle.std.proofs.Common.{◌+◌, ◌≤◌, List, [], length, map, sym, ap, subst, ◌∙◌, arith, Vec}
 use Rattle.std.specs.declared.alloc.Global.{Global}
 use Rattle.std.specs.List.{All}
 use Rattle.std.specs.Prelude.{sum_by}
@@ -35,3 +35,7 @@ loop-contents-preserved c =
       cols = All-tail (λ row. length row ≤ LAST_COL) first left (subst (λ (rows : List (Vec Content Global)). All (λ row. length row ≤ LAST_COL) (contents_of rows)) steps inv.cols);
       room = omega (arith, room, sum, c.in_ok-place_row.ensures.room);
     }
+
+pub place_row-requires-clause-few : goal.place_row-requires-clause-few
+place_row-requires-clause-few c =
+    subst (λ (rows : List (Vec Content Global)). All (λ row. length row ≤ LAST_COL) (contents_of rows)) c.in-Some.ensures.steps.0 c.loop-contents.invariant.cols 0 [] (omega arith)
