@@ -19,6 +19,7 @@
 -- Looked: what is lent of a cell's content.
 -- Listed: cells that are listed with what they hold.
 -- Told: the cells of columns are those of a book, which slots decide.
+-- RunRows: runs lie in their column. FormRuns: runs of codes are runs of forms. Downwards: the rows of a column and its cells.
 pub mod Orders
 pub mod Found
 pub mod Edited
@@ -45,3 +46,6 @@ pub mod Filled
 pub mod CountsMore
 pub mod Looked
 pub mod Listed
+pub mod RunRows
+pub mod FormRuns
+pub mod Downwards

@@ -5,6 +5,7 @@ mod cells;
 mod columns;
 mod counting;
 mod emptying;
+mod lending;
 mod looking;
 mod making;
 mod reading;

@@ -4,7 +4,7 @@ ghost use Rattle.calc_model.specs.Books.{NameEntries, entry_named};
 ghost use Rattle.calc_model.specs.Ears.{area_at};
 ghost use Rattle.calc_model.specs.Reads.{areas};
 ghost use Rattle.calc_model.specs.declared.tree.Tree.{Tree};
-ghost use Rattle.formula_code.specs.Codes.{AreUsed, Changes, Code, Codes, HasRoom, IsCodeAt, IsSame, slot_uses, total_uses, tree_at, uses_at};
+ghost use Rattle.formula_code.specs.Codes.{AreUsed, Changes, Code, Codes, HasRoom, IsCodeAt, IsSame, form_at, slot_uses, total_uses, tree_at, uses_at};
 ghost use Rattle.formula_code.specs.Ears.{ears};
 ghost use Rattle.formula_code.specs.Nodes.{postfix};
 ghost use Rattle.formula_code.specs.Relative.{absolute, relative};
@@ -28,9 +28,12 @@ pub fn uses_add_up()
     ensures room { (codes : Codes) → AreUsed codes → total_uses codes < 2 ^ 24 → HasRoom codes }
 {}
 
-/// A relative form at its cell is the tree, and no other tree has the same nodes.
+/// A relative form at its cell is the tree, a code's form is that of its tree, and no other tree has the same
+/// nodes.
 pub fn forms_are_trees()
     ensures back { (home : Place) (tree : Tree) → IsPlace home
         → absolute home (relative home tree) ≡ tree }
+    ensures form { (codes : Codes) (id : ℕ) (home : Place) → IsCodeAt codes id home
+        → relative home (tree_at codes id home) ≡ form_at codes id }
     ensures one { (x y : Tree) → postfix x ≡ postfix y → x ≡ y }
 {}
