@@ -45,3 +45,4 @@ pub mod Filled
 pub mod CountsMore
 pub mod Looked
 pub mod Listed
+pub mod RowParts

@@ -7,6 +7,7 @@
 -- Emptied: cells without those of some rows in neighbouring columns.
 -- Looks: what is lent of a cell's content.
 -- Walks: the rows of a column that hold something, and the cells that they are.
+-- Shifted: where cells go with a change of rows.
 pub mod Cells
 pub mod Uses
 pub mod Sheets
@@ -16,3 +17,4 @@ pub mod Freed
 pub mod Emptied
 pub mod Looks
 pub mod Walks
+pub mod Shifted
