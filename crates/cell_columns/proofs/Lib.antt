@@ -46,3 +46,4 @@ pub mod CountsMore
 pub mod Looked
 pub mod Listed
 pub mod RowParts
+pub mod RowsMoved

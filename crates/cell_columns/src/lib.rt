@@ -6,6 +6,7 @@ mod columns;
 mod counting;
 mod emptying;
 mod looking;
+mod probe;
 mod making;
 mod reading;
 mod release;
@@ -14,3 +15,4 @@ mod walking;
 
 pub use columns::{COLUMNS, CellColumns};
 pub use looking::Coded;
+pub use probe::probing;

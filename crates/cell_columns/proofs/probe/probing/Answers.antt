@@ -1,0 +1,6 @@
+use Rattle.std.proofs.Common.{arith}
+use Rattle.cell_columns.proofs.RowsMoved.{length_erased}
+use Rattle.cell_columns.proofs.probe.probing.Goals as goal
+
+pub returns : goal.returns
+returns c n = omega arith
