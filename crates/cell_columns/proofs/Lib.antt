@@ -47,3 +47,5 @@ pub mod Looked
 pub mod Listed
 pub mod RowParts
 pub mod RowsMoved
+pub mod SheetShifted
+pub mod ColumnShifted
