@@ -49,3 +49,4 @@ pub mod RowParts
 pub mod RowsMoved
 pub mod SheetShifted
 pub mod ColumnShifted
+pub mod BookShifted

@@ -94,7 +94,7 @@ content_after change rows q (content.Raw text) h = h
 empty_fits : (codes : Codes) (q : Place) → IsFit codes q slot.Empty
 empty_fits codes q = record { coded = λ id here. cc; fit = λ filled. cc }
 
-summed_alike : (f : Slot → ℕ) (xs ys : List Column) → length ys ≡ length xs → ((n : ℕ) → n < length xs → sum_by f (column_at ys n) ≡ sum_by f (column_at xs n)) → summed f ys ≡ summed f xs
+pub summed_alike : (f : Slot → ℕ) (xs ys : List Column) → length ys ≡ length xs → ((n : ℕ) → n < length xs → sum_by f (column_at ys n) ≡ sum_by f (column_at xs n)) → summed f ys ≡ summed f xs
 summed_alike f [] [] long each = refl
 summed_alike f [] (y ∷ ys) long each = absurd (omega (arith, long))
 summed_alike f (x ∷ xs) [] long each = absurd (omega (arith, long))
@@ -141,7 +141,7 @@ module _ (codes : Codes) (change : Change) (rows : IsChange change) (before : Li
       content = subst (λ x. content_of codes (goes change (cell_in n (1 + i))) x ≡ with_tree (tree_after change (cell_in n (1 + i))) (content_of codes (cell_in n (1 + i)) x)) (slot_here n i) (content_there (cell_in n (1 + i)) (inside i h));
     })
 
-    all_fit : Rows (Fits codes n change) 1 (column_at before n)
+    pub all_fit : Rows (Fits codes n change) 1 (column_at before n)
     all_fit = rows_from (Fits codes n change) 1 (column_at before n) (λ i h. record {
       coded = λ id here. was.coded (cell_in n (1 + i)) (inside i h) id (slot_here n i ∙ here);
       fit = λ filled. subst (λ x. is_content (content_of codes (cell_in n (1 + i)) x) ≡ true) (slot_here n i) (was.fit (cell_in n (1 + i)) (inside i h) (subst (λ x. is_filled x ≡ true) (sym (slot_here n i)) filled));
