@@ -24,7 +24,7 @@ use Rattle.cell_columns.specs.declared.columns.TheConstants.{COLUMNS}
 use Rattle.cell_columns.specs.Cells.{Column, cell_in, cells_below, cells_from, cells_of, column_at, column_number, content_of, slot_at}
 use Rattle.cell_columns.specs.Lent.{AreColumns, codes_of, slots_of}
 use Rattle.cell_columns.specs.Sheets.{AreSheets}
-use Rattle.cell_columns.specs.Shifted.{AllKeepForms, AllStayIn, StaysIn, goes, rows_moved, sheet_of, shifted, tree_after}
+use Rattle.cell_columns.specs.Shifted.{AllKeepForms, AllStayIn, PartlyMoved, StaysIn, goes, rows_moved, sheet_of, shifted, tree_after}
 use Rattle.cell_columns.specs.Uses.{cell_of, codes_in, formula_of, summed, use_of}
 use Rattle.cell_columns.proofs.Counted.{counted}
 use Rattle.cell_columns.proofs.Edited.{IsFit, number_in}
@@ -32,12 +32,6 @@ use Rattle.cell_columns.proofs.ColumnShifted.{off_sheet, on_sheet}
 use Rattle.cell_columns.proofs.RowParts.{Fits, Rows, row_at, shifted_append}
 use Rattle.cell_columns.proofs.SheetShifted.{MovesWell, all_fit, held_filled, place_goes, summed_alike}
 use Rattle.cell_columns.proofs.Told.{holds, place_is}
-
--- the columns from one number up to another went with the change, and the others stayed
-pub record PartlyMoved (change : Change) (before after : List Column) (from k : ℕ) : Type 0 where
-  pub all : length after ≡ length before
-  pub moved : (n : ℕ) → from ≤ n → n < k → n < length before → column_at after n ≡ rows_moved change slot.Empty (column_at before n)
-  pub others : (n : ℕ) → (n < from) ⊎ (k ≤ n) → column_at after n ≡ column_at before n
 
 module _ (codes : Codes) (change : Change) (rows : IsChange change) (before : List Column) (was : AreSheets codes before) (all_stay : AllStayIn change (cells_of codes before)) (all_keep : AllKeepForms change (cells_of codes before)) where
   stays : (q : Place) → IsPlace q → is_filled (slot_at before q) ≡ true → StaysIn change q

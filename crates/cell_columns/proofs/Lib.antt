@@ -50,3 +50,4 @@ pub mod RowsMoved
 pub mod SheetShifted
 pub mod ColumnShifted
 pub mod BookShifted
+pub mod ColumnsMoved

@@ -69,7 +69,7 @@ place_goes (Deleted sheet place count) rows q is stays =
 place_goes Stays rows q is stays = is
 place_goes (Moves cols by) rows q is stays = is
 
-empty_slot : (x : Slot) → is_filled x ≡ false → x ≡ slot.Empty
+pub empty_slot : (x : Slot) → is_filled x ≡ false → x ≡ slot.Empty
 empty_slot slot.Empty h = refl
 empty_slot (slot.Number n) h = cc
 empty_slot (slot.Words text) h = cc

@@ -1,12 +1,11 @@
 -- Where the cells of a book go with a change of rows, and what becomes of them.
-use Rattle.std.specs.Prelude.{◌≡◌, ◌≤◌, ◌-◌, ℕ, true, List, map}
-use Rattle.calc_addr.specs.declared.cell.TheConstants.{LAST_SHEET}
+use Rattle.std.specs.Prelude.{◌≡◌, ◌≤◌, ◌<◌, ◌-◌, ℕ, true, List, length, map, ◌⊎◌}
 use Rattle.calc_addr.specs.Places.{IsPlace, Place}
 use Rattle.calc_model.specs.declared.change.Change.{Change}
 use Rattle.calc_model.specs.declared.change.Change.TheVariants.{Inserted, Deleted}
 use Rattle.calc_model.specs.declared.content.Content.TheVariants.{Formula}
 use Rattle.calc_model.specs.declared.tree.Tree.{Tree}
-use Rattle.calc_model.specs.Books.{content_at, is_formula, is_held}
+use Rattle.calc_model.specs.Books.{content_at, is_held}
 use Rattle.calc_model.specs.CellEdits.{CellEntries}
 use Rattle.calc_model.specs.Changes.{changed}
 use Rattle.calc_model.specs.Homes.{StaysDeleted, StaysInserted, home_after_deletion, home_after_insertion}
@@ -14,7 +13,8 @@ use Rattle.calc_model.specs.RowEdits.{shifted_entry}
 use Rattle.calc_model.specs.TreeShifts.{replaced}
 use Rattle.formula_code.specs.Relative.{relative}
 use Rattle.run_tables.specs.Rows.{rows_erased, rows_inserted}
-use Rattle.cell_columns.specs.Cells.{cells_only}
+use Rattle.block_column.specs.declared.slot.Slot.TheVariants.{Empty}
+use Rattle.cell_columns.specs.Cells.{Column, cells_only, column_at}
 
 -- the sheet whose rows change
 abbrev pub sheet_of : Change → ℕ
@@ -59,3 +59,9 @@ KeepsForm change home tree = relative (goes change home) (tree_after change home
 -- the relative forms of all formulas are
 abbrev pub AllKeepForms : Change → CellEntries → Type 0
 AllKeepForms change cells = (q : Place) → IsPlace q → (tree : Tree) → content_at (cells_only cells) q ≡ Formula tree → KeepsForm change q tree
+
+-- The columns from one number up to another went with the change, and the others stayed.
+pub record PartlyMoved (change : Change) (before after : List Column) (from behind : ℕ) : Type 0 where
+  pub all : length after ≡ length before
+  pub moved : (n : ℕ) → from ≤ n → n < behind → n < length before → column_at after n ≡ rows_moved change Empty (column_at before n)
+  pub others : (n : ℕ) → (n < from) ⊎ (behind ≤ n) → column_at after n ≡ column_at before n

@@ -6,13 +6,12 @@ mod columns;
 mod counting;
 mod emptying;
 mod looking;
-mod probe;
 mod making;
 mod reading;
 mod release;
+mod shifting;
 mod slots;
 mod walking;
 
 pub use columns::{COLUMNS, CellColumns};
 pub use looking::Coded;
-pub use probe::probing;
