@@ -44,23 +44,23 @@ entries_are_codes columns groups n g inside grouped is =
     ∙ ap (λ gs. slice_index_or gs n []) grouped
     ∙ codes_at columns n
 
-codes-append : (c d : Column) → codes_in (c ++ d) ≡ codes_in c ++ codes_in d
+pub codes-append : (c d : Column) → codes_in (c ++ d) ≡ codes_in c ++ codes_in d
 codes-append [] d = refl
 codes-append (x ∷ c) d = ap (λ t. code_in x ∷ t) (codes-append c d)
 
-codes-take : (n : ℕ) (c : Column) → codes_in (take n c) ≡ take n (codes_in c)
+pub codes-take : (n : ℕ) (c : Column) → codes_in (take n c) ≡ take n (codes_in c)
 codes-take zero [] = refl
 codes-take zero (x ∷ c) = refl
 codes-take (suc n) [] = refl
 codes-take (suc n) (x ∷ c) = ap (λ t. code_in x ∷ t) (codes-take n c)
 
-codes-drop : (n : ℕ) (c : Column) → codes_in (drop n c) ≡ drop n (codes_in c)
+pub codes-drop : (n : ℕ) (c : Column) → codes_in (drop n c) ≡ drop n (codes_in c)
 codes-drop zero [] = refl
 codes-drop zero (x ∷ c) = refl
 codes-drop (suc n) [] = refl
 codes-drop (suc n) (x ∷ c) = codes-drop n c
 
-no_codes_in : (n : ℕ) → codes_in (replicate n slot.Empty) ≡ replicate n None
+pub no_codes_in : (n : ℕ) → codes_in (replicate n slot.Empty) ≡ replicate n None
 no_codes_in zero = refl
 no_codes_in (suc n) = ap (λ t. None ∷ t) (no_codes_in n)
 

@@ -49,3 +49,9 @@ pub mod Listed
 pub mod RunRows
 pub mod FormRuns
 pub mod Downwards
+pub mod RowParts
+pub mod RowsMoved
+pub mod SheetShifted
+pub mod ColumnShifted
+pub mod BookShifted
+pub mod ColumnsMoved

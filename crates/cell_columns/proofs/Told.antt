@@ -25,7 +25,7 @@ use Rattle.cell_columns.specs.Sheets.{AreSheets}
 use Rattle.cell_columns.proofs.Orders.{in_order}
 use Rattle.cell_columns.proofs.Found.{in_column, shown}
 
-place_is : (q : Place) → IsPlace q → q ≡ cell_in (0 + column_number q) (1 + (q.row - 1))
+pub place_is : (q : Place) → IsPlace q → q ≡ cell_in (0 + column_number q) (1 + (q.row - 1))
 place_is q is =
     exact_places q (cell_in (0 + column_number q) (1 + (q.row - 1))) (grind (arith, nat_tests, is.sheet_in, is.col_from, is.col_to, is.row_from, is.row_to))
 
@@ -82,7 +82,7 @@ module _ (codes : Codes) where
       (entries_below number 1 c (λ i h filled. subst (λ n. is_cell_entry (cell_in n (1 + i), content_of codes (cell_in n (1 + i)) (slice_index_or c i slot.Empty)) ≡ true) (same_number number) (each 0 i (omega arith) h filled)))
       (entries_from (number + 1) cs (λ j i h k filled. subst (λ n. is_cell_entry (cell_in n (1 + i), content_of codes (cell_in n (1 + i)) (slice_index_or (column_at cs j) i slot.Empty)) ≡ true) (next_number number j) (each (suc j) i (omega (arith, h)) k filled)))
 
-place_in : (j i : ℕ) → j < COLUMNS → i < LAST_ROW → IsPlace (cell_in j (1 + i))
+pub place_in : (j i : ℕ) → j < COLUMNS → i < LAST_ROW → IsPlace (cell_in j (1 + i))
 place_in j i h k = record {
   sheet_in = omega (arith, h);
   col_from = omega arith;
@@ -91,10 +91,10 @@ place_in j i h k = record {
   row_to = omega (arith, k);
 }
 
-row_behind : (i : ℕ) → 1 + i - 1 ≡ i
+pub row_behind : (i : ℕ) → 1 + i - 1 ≡ i
 row_behind i = omega arith
 
-number_of : (j i : ℕ) → column_number (cell_in j (1 + i)) ≡ j
+pub number_of : (j i : ℕ) → column_number (cell_in j (1 + i)) ≡ j
 number_of j i = omega arith
 
 pub place_test : (q : Place) → IsPlace q → is_place q ≡ true

@@ -15,5 +15,6 @@ pub mod SameNames
 pub mod EarLists
 pub mod RunReads
 pub mod StayingForms
+pub mod FormsBack
 pub mod Totals
 mod FormExamples

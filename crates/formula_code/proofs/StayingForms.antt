@@ -47,7 +47,7 @@ module _ (by : Reference → Tree) where
       ap (λ y. y ∷ map (replaced by) xs) (known.0 (front (StaysBy by) (postfix x) (flat_map postfix xs) all))
       ∙ ap (λ ys. x ∷ ys) (trees_stay xs known.1 (back (StaysBy by) (postfix x) (flat_map postfix xs) all))
 
-  stays : (x : Tree) → Stays x
+  pub stays : (x : Tree) → Stays x
   stays = tree_ind Stays (record {
     number = λ n all. replaced-Number by n;
     words = λ text all. replaced-Words by text;

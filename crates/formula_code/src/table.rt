@@ -327,8 +327,9 @@ impl CodeTable {
         )
     }
 
-    /// Whether the code serves the changed formula at the cell `to` too. False says nothing.
-    fn stays(&self, id: CodeId, home: Cell, change: Change, to: Cell) -> bool
+    /// Whether the code serves the changed formula at the cell `to` too. False says nothing. Linear in its
+    /// nodes, without memory.
+    pub fn stays(&self, id: CodeId, home: Cell, change: Change, to: Cell) -> bool
         requires at { IsCodeAt self.now id home }
         requires change { IsChange change }
         ensures { IsTrue result

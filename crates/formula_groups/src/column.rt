@@ -144,6 +144,7 @@ impl GroupColumn {
         ensures ok { OnOk result (self.new.entries
             ≡ rows_inserted (place - 1) count None self.old.entries) }
         ensures err { OnErr result (self.new.entries ≡ self.old.entries) }
+        ensures reserved { 2 ≤ self.old.spare → IsOk result }
     {
         self.groups.reserve(2 * PLACES)?;
         edit(&mut self.groups, LAST_ROW - count, LAST_ROW, 0, None)?;
@@ -157,6 +158,7 @@ impl GroupColumn {
         ensures ok { OnOk result (self.new.entries
             ≡ rows_erased (place - 1) count None self.old.entries) }
         ensures err { OnErr result (self.new.entries ≡ self.old.entries) }
+        ensures reserved { 1 ≤ self.old.spare → IsOk result }
     {
         edit(&mut self.groups, place - 1, place - 1 + count, 0, None)
     }
