@@ -2,7 +2,8 @@
 -- GroupWalks: a walk over the groups of a column. AreaCells: the cells of an area. ColumnCodes: the codes of
 -- one of all columns.
 -- BookReads: what the formulas of a book read, by their codes.
--- MovedTrees, MovedBooks: what formulas read after rows went.
+-- MovedTrees, MovedBooks, MovedRows: what formulas read after rows went. Unchanged: edits that leave what they read.
+-- WholeBooks: a hub of all formulas of a book.
 pub mod EarsLie
 pub mod InRuns
 pub mod GroupWalks
@@ -11,3 +12,6 @@ pub mod ColumnCodes
 pub mod BookReads
 pub mod MovedTrees
 pub mod MovedBooks
+pub mod MovedRows
+pub mod Unchanged
+pub mod WholeBooks

@@ -39,7 +39,7 @@ module _ (sheet : ℕ) (change : Rectangle → Option Rectangle) (alike : GoesAl
       gone None = refl
       gone (Some b) = refl
 
-  name_goes : (entries : NameEntries) (name : List ℕ) → named_areas (entry_named (names_on_sheet sheet change entries) name) ≡ filter_map after (named_areas (entry_named entries name))
+  pub name_goes : (entries : NameEntries) (name : List ℕ) → named_areas (entry_named (names_on_sheet sheet change entries) name) ≡ filter_map after (named_areas (entry_named entries name))
   unfolding entry_named
   name_goes entries name =
       ap (λ found. named_areas (looked_up found)) (find-valued name_cmp (target_on_sheet sheet change) (str_to_ascii_uppercase name) entries)
