@@ -89,7 +89,7 @@ area_below true a sheet distance first last f l up down =
 area_below false a sheet distance first last f l up down =
     ap (λ n. record a { sheet = sheet; first_row = n; last_row = end_at last a.last_row distance }) up ∙ ap (λ n. record a { sheet = sheet; first_row = f; last_row = n }) down
 
-reference_reads : (home : Place) (distance : ℕ) (r : Reference) → is_valid_reference (absolute_reference home r) ≡ true → area_at (ear_of home (absolute_reference home r)) distance ≡ here (absolute_reference (rows_below home distance) r) (rows_below home distance)
+pub reference_reads : (home : Place) (distance : ℕ) (r : Reference) → is_valid_reference (absolute_reference home r) ≡ true → area_at (ear_of home (absolute_reference home r)) distance ≡ here (absolute_reference (rows_below home distance) r) (rows_below home distance)
 reference_reads home distance r valid =
     let lies = (tested-valid (absolute_reference home r) valid).lies in
     area_below r.marks.sheet (absolute_reference home r).area home.sheet distance (has_rows r.span && not r.marks.first_row) (has_rows r.span && not r.marks.last_row) _ _

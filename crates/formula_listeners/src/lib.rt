@@ -1,0 +1,12 @@
+//! A hub that holds what the formulas of a book read, which stand as codes in the groups of columns.
+#![tactic(auto)]
+
+mod areas;
+mod laws;
+mod rows;
+mod runs;
+mod whole;
+
+pub use areas::{listen_area, listen_cell, silence};
+pub use laws::{reads_go_with_cells, reads_go_with_names, reads_go_with_rows};
+pub use whole::listen_all;
