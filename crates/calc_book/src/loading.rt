@@ -91,12 +91,7 @@ fn place_row(
 }
 
 /// Puts a content into a cell.
-fn set(
-    alloc: Global,
-    book: &mut BookParts,
-    cell: Cell,
-    content: Content,
-) -> Result<(), NoMemory>
+fn set(alloc: Global, book: &mut BookParts, cell: Cell, content: Content) -> Result<(), NoMemory>
     requires room { length (with_content book.old.cells cell content) ≤ MOST_CELLS }
     ensures cells { OnOk result (book.new.cells ≡ with_content book.old.cells cell content) }
     ensures names { OnOk result (book.new.names ≡ book.old.names) }

@@ -1,10 +1,16 @@
--- The book that a line makes is no greater than such a book may be.
-use Rattle.std.proofs.Common.{◌≡◌, ℕ, true, false, cond, nat_le, List, [], ◌∷◌, length, refl}
-use Rattle.std.specs.Prelude.{Result, Ok, Err, ◌==◌}
-use Rattle.std.specs.List.{AllByRecursion}
+-- The book that a line makes is no greater than such a book may be, and the column that it asks for is one.
+use Rattle.std.proofs.Common.{◌≡◌, ℕ, ◌+◌, ◌-◌, ◌&&◌, Bool, true, false, cond, nat_eq, nat_le, List, [], ◌∷◌, length, map, drop, refl, arith}
+use Rattle.std.proofs.lemmas.Bool.{and_from, and_parts}
+use Rattle.std.proofs.lemmas.Bool.Decides.{nat_tests}
+use Rattle.std.specs.Prelude.{Result, Ok, Err, ◌==◌, codes}
+use Rattle.std.specs.List.{AllByRecursion, before_first, list_any, starts_with}
+use Rattle.std.specs.Char.{to_ascii_lowercase}
+use Rattle.std.specs.Str.Parse.{digits_value}
+use Rattle.calc_addr.specs.declared.cell.TheConstants.{LAST_COL, LAST_SHEET}
+use Rattle.calc_addr.specs.Letters.{column_number}
 use Rattle.std.specs.Str.{bytes_eq, is_utf8}
 use Rattle.calc_addr.specs.Places.{Place, Rectangle}
-use Rattle.calc_addr.specs.Spelling.{both, row_of, spelled_area, spelled_cell}
+use Rattle.calc_addr.specs.Spelling.{after_sheet, are_digits_or_zero, are_letters, both, column_of, from_zero, is_point, row_of, sheet_number, sheet_of, sheet_part, spelled_area, spelled_cell, undollared, up_to}
 use Rattle.calc_addr.specs.declared.read.Spelled.{Spelled}
 use Rattle.calc_addr.specs.declared.read.Spelled.TheVariants.{Is, Outside, Not}
 use Rattle.calc_model.specs.declared.content.Content.{Content}
@@ -62,6 +68,64 @@ sized (start ∷ []) = refl
 sized (start ∷ rows ∷ []) = few (start_of start) (row_of rows)
 sized (start ∷ rows ∷ third ∷ words) = refl
 
+-- what is read passes the test
+abbrev Fits : (ℕ → Bool) → Spelled ℕ → Type 0
+Fits test (Is n) = test n ≡ true
+Fits test Outside = Unit {0}
+Fits test Not = Unit {0}
+
+abbrev is_sheet : ℕ → Bool
+is_sheet n = nat_le n LAST_SHEET
+
+abbrev is_col : ℕ → Bool
+is_col n = nat_le 1 n && nat_le n LAST_COL
+
+no_later : (n : ℕ) → nat_le n (LAST_SHEET + 1) ≡ true → is_sheet (n - 1) ≡ true
+no_later n h = grind (arith, nat_tests, h)
+
+-- a number of a sheet, counted from 1
+sheet_fits : (n : ℕ) → Fits is_sheet (from_zero (up_to (LAST_SHEET + 1) n))
+sheet_fits n =
+    elim (nat_le 1 n && nat_le n (LAST_SHEET + 1)) as (λ b. (nat_le 1 n && nat_le n (LAST_SHEET + 1)) ≡ b → Fits is_sheet (from_zero (cond b (Is n) Outside))) [
+      | true ↦ λ within. no_later n (and_parts (nat_le 1 n) (nat_le n (LAST_SHEET + 1)) within).1
+      | false ↦ λ _. tt
+    ] refl
+
+numbered_fits : (digits : List ℕ) → Fits is_sheet (sheet_number digits)
+numbered_fits digits = elim (are_digits_or_zero digits) as (λ b. Fits is_sheet (cond b (from_zero (up_to (LAST_SHEET + 1) (digits_value 10 digits))) Not)) [ true ↦ sheet_fits (digits_value 10 digits) | false ↦ tt ]
+
+named_fits : (word : List ℕ) → Fits is_sheet (sheet_of word)
+named_fits word = elim (starts_with nat_eq (map to_ascii_lowercase word) (codes "sheet")) as (λ b. Fits is_sheet (cond b (sheet_number (drop 5 word)) Not)) [ true ↦ numbered_fits (drop 5 word) | false ↦ tt ]
+
+part_fits : (text : List ℕ) → Fits is_sheet (sheet_part text)
+part_fits text = elim (list_any is_point text) as (λ b. Fits is_sheet (cond b (sheet_of (undollared (before_first is_point text))) (Is 0))) [ true ↦ named_fits (undollared (before_first is_point text)) | false ↦ refl ]
+
+within_fits : (n : ℕ) → Fits is_col (up_to LAST_COL n)
+within_fits n = elim (is_col n) as (λ b. is_col n ≡ b → Fits is_col (cond b (Is n) Outside)) [ true ↦ λ within. within | false ↦ λ _. tt ] refl
+
+column_fits : (letters : List ℕ) → Fits is_col (column_of letters)
+column_fits letters = elim (are_letters letters) as (λ b. Fits is_col (cond b (up_to LAST_COL (column_number letters)) Not)) [ true ↦ within_fits (column_number letters) | false ↦ tt ]
+
+module _ (command : ℕ → ℕ → Command) (can : (sheet col : ℕ) → is_sheet sheet ≡ true → is_col col ≡ true → is_makeable_command (command sheet col) ≡ true) where
+  abbrev with_both : Spelled (ℕ × ℕ) → Line
+  with_both read = line_with (λ (read : ℕ × ℕ). command read.0 read.1) (address_of read)
+
+  both_fit : (sheet col : Spelled ℕ) → Fits is_sheet sheet → Fits is_col col → is_makeable_line (with_both (both (λ sheet col. (sheet, col)) sheet col)) ≡ true
+  both_fit (Is s) (Is c) h k = can s c h k
+  both_fit (Is s) Outside h k = refl
+  both_fit (Is s) Not h k = refl
+  both_fit Outside (Is c) h k = refl
+  both_fit Outside Outside h k = refl
+  both_fit Outside Not h k = refl
+  both_fit Not col h k = refl
+
+  -- a command of a column, whose words name one
+  of_column : (words : List (List ℕ)) → is_makeable_line (line_with (λ (read : ℕ × ℕ). command read.0 read.1) (col_of words)) ≡ true
+  unfolding col_of
+  of_column [] = refl
+  of_column (col ∷ []) = both_fit (sheet_part col) (column_of (undollared (after_sheet col))) (part_fits col) (column_fits (undollared (after_sheet col)))
+  of_column (col ∷ other ∷ words) = refl
+
 -- a line of one of some verbs, whose lines can all be made
 abbrev IsMakeable : List ℕ × (List ℕ → Line) → Type 0
 IsMakeable verb = (rest : List ℕ) → is_makeable_line (verb.1 rest) ≡ true
@@ -109,9 +173,9 @@ module _ (field : List ℕ → Content) where
                         (
                           λ rest. with_read commands.Formulas (λ _. refl) (few_cells MOST_PRINTED (area_of (words_of rest))),
                           (
-                            λ rest. with_read (λ (read : ℕ × ℕ). commands.Groups read.0 read.1) (λ _. refl) (col_of (words_of rest)),
+                            λ rest. of_column commands.Groups (λ sheet col h k. and_from (is_sheet sheet) (is_col col) h k) (words_of rest),
                             (
-                              λ rest. with_read (λ (read : ℕ × ℕ). commands.Blocks read.0 read.1) (λ _. refl) (col_of (words_of rest)),
+                              λ rest. of_column commands.Blocks (λ sheet col h k. and_from (is_sheet sheet) (is_col col) h k) (words_of rest),
                               (
                                 λ rest. with_read commands.Watch (λ _. refl) (few_cells MOST_WATCHED (area_of (words_of rest))),
                                 (

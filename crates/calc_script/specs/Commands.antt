@@ -7,7 +7,7 @@ use Rattle.std.specs.Str.{bytes_eq, is_utf8}
 use Rattle.calc_addr.specs.Places.{Place, Rectangle, cell_count}
 use Rattle.calc_addr.specs.Spelling.{both, row_of, spelled_area, spelled_cell, spelled_col, spelled_row}
 use Rattle.calc_addr.specs.ValidReferences.{is_rectangle}
-use Rattle.calc_addr.specs.declared.cell.TheConstants.{LAST_ROW}
+use Rattle.calc_addr.specs.declared.cell.TheConstants.{LAST_COL, LAST_ROW, LAST_SHEET}
 use Rattle.calc_addr.specs.declared.read.Spelled.{Spelled}
 use Rattle.calc_addr.specs.declared.read.Spelled.TheVariants.{Is, Outside, Not}
 use Rattle.calc_model.specs.declared.content.Content.{Content}
@@ -261,15 +261,21 @@ module _ (field : List ℕ → Content) where
   abbrev pub line_of : List ℕ → Line
   line_of line = text_line (without_return line)
 
--- a command whose edit can be made
+-- there is such a column on such a sheet
+abbrev pub is_column : ℕ → ℕ → Bool
+is_column sheet col = nat_le sheet LAST_SHEET && (nat_le 1 col && nat_le col LAST_COL)
+
+-- a command whose edit can be made, or whose column there is
 abbrev pub is_makeable_command : Command → Bool
 is_makeable_command (commands.Edit edit) = is_makeable edit
+is_makeable_command (commands.Groups sheet col) = is_column sheet col
+is_makeable_command (commands.Blocks sheet col) = is_column sheet col
 is_makeable_command _ = true
 
 abbrev pub is_makeable_line : Line → Bool
 is_makeable_line (Do command) = is_makeable_command command
 is_makeable_line _ = true
 
--- No line makes a greater book than such a book may be.
+-- No line makes a greater book than such a book may be, or asks for a column that there isn't.
 abbrev pub MakesSmallBooks : Type 0
 MakesSmallBooks = (field : List ℕ → Content) (line : List ℕ) → is_makeable_line (line_of field line) ≡ true
