@@ -1,4 +1,4 @@
-ghost use Rattle.std.specs.Prelude.{◌≡◌, ◌≤◌, ◌<◌, ◌+◌, ◌-◌, ◌↔◌, nat_le, [], false, true, length, IfNone, IfOk, IfSome, IsErrOf, IsTrue, OnOk, OnErr};
+ghost use Rattle.std.specs.Prelude.{◌≡◌, ◌≤◌, ◌<◌, ◌+◌, ◌-◌, ◌↔◌, nat_le, [], false, true, length, IfNone, IfOk, IfSome, IsErrOf, IsTrue, OnOk, OnErr, map};
 ghost use Rattle.std.specs.List.{All, list_all};
 ghost use Rattle.calc_model.specs.Books.{IsBook, content_at, formula_count, is_formula, is_held, with_content};
 ghost use Rattle.calc_addr.specs.Places.{places};
@@ -10,6 +10,7 @@ ghost use Rattle.calc_model.specs.Tokens.{is_name};
 ghost use Rattle.calc_names.specs.NameFaults.{IsOneTooMany};
 ghost use Rattle.calc_model.specs.GeneratedBook.{generated_book};
 ghost use Rattle.calc_model.specs.RowEdits.{cells_after_deletion, cells_after_insertion, is_pushed_out};
+ghost use Rattle.cell_columns.specs.ColumnRuns.{AllLie, IsSheetColumn, blocks_in, groups_in, rows_of_block, rows_of_group, rows_of_run};
 ghost use Rattle.cell_columns.specs.Looks.{IsLent};
 ghost use Rattle.cell_columns.specs.Walks.{places_of};
 ghost use Rattle.book_parts.specs.Runs.{AreEmpty, IsCodedIn, moved_entries};
@@ -17,11 +18,12 @@ ghost use Rattle.book_parts.specs.Runs.{AreEmpty, IsCodedIn, moved_entries};
 use crate::copies::{area_at, copied_entries};
 use crate::generated::generated;
 use crate::rows::{Rows, deleted, inserted, is_pushed_out};
-use block_column::SlotRef;
+use block_column::{Block, SlotRef};
 use calc_addr::{Area, Cell, LAST_ROW, LAST_SHEET, NoMemory};
 use calc_model::{Content, Looked, MOST_CELLS, MOST_GENERATED_ROWS, NameTable, Text};
 use calc_names::{NameFault, Names};
 use cell_columns::{CellColumns, Coded};
+use formula_groups::Group;
 use std::alloc::Global;
 use std::marker::Model;
 
@@ -414,6 +416,28 @@ impl BookParts {
         self.names.remove(name)?;
         self.are_book();
         Ok(())
+    }
+
+    /// The formula groups of a column, downwards: its maximal runs of formulas with one relative form. It
+    /// takes no time.
+    #[tactic(auto, unfolding(cell_columns::specs::ColumnRuns::groups_in, calc_model::specs::Books::content_at))]
+    pub fn groups(&self, sheet: u8, col: u16) -> &[Group]
+        requires { IsSheetColumn sheet col }
+        ensures groups { map (rows_of_group sheet col) result.now
+            ≡ map (rows_of_run sheet col) (groups_in self.now sheet col) }
+        ensures rows { AllLie (map (rows_of_group sheet col) result.now) }
+    {
+        self.cells.groups(sheet, col)
+    }
+
+    /// The blocks of a column, downwards: its maximal runs of cells of one kind. It takes no time.
+    #[tactic(auto, unfolding(cell_columns::specs::ColumnRuns::blocks_in, calc_model::specs::Books::content_at))]
+    pub fn blocks(&self, sheet: u8, col: u16) -> &[Block]
+        requires { IsSheetColumn sheet col }
+        ensures blocks { result.now ≡ blocks_in self.now sheet col }
+        ensures rows { AllLie (map (rows_of_block sheet col) result.now) }
+    {
+        self.cells.blocks(sheet, col)
     }
 
     /// How many cells hold a formula. Linear in the blocks.

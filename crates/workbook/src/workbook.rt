@@ -1,5 +1,5 @@
 //! A workbook: its parts, what they show, and the edits of both.
-ghost use Rattle.std.specs.Prelude.{◌≡◌, ◌≤◌, ◌↔◌, ◌++◌, [], length, IfOk, IsErrOf, OnOk, OnErr, false, true};
+ghost use Rattle.std.specs.Prelude.{◌≡◌, ◌≤◌, ◌↔◌, ◌++◌, [], length, IfOk, IsErrOf, OnOk, OnErr, false, map, true};
 ghost use Rattle.std.specs.List.{filter};
 ghost use Rattle.calc_addr.specs.Places.{Place};
 ghost use Rattle.calc_model.specs.Books.{content_at, formula_count, with_content};
@@ -9,6 +9,7 @@ ghost use Rattle.calc_model.specs.Printed.{printed_content};
 ghost use Rattle.calc_model.specs.Val.{val};
 ghost use Rattle.calc_model.specs.ValueTexts.{lent};
 ghost use Rattle.book_parts.specs.ShownCells.{shown_values};
+ghost use Rattle.cell_columns.specs.ColumnRuns.{AllLie, IsSheetColumn, blocks_in, groups_in, rows_of_block, rows_of_group, rows_of_run};
 ghost use Rattle.calc_model.specs.declared.edit.EditCause.{EditCause};
 ghost use Rattle.workbook.specs.Touched.{contains_cell};
 ghost use Rattle.workbook.specs.Workbook.{AfterNoMemory, IsFresh, IsRefused, Made, WasBook, stale_of, values_of};
@@ -16,9 +17,11 @@ ghost use Rattle.workbook.specs.Workbook.{AfterNoMemory, IsFresh, IsRefused, Mad
 use crate::fault::EditFault;
 use crate::reach::reached;
 use crate::touched::Touched;
+use block_column::Block;
 use book_parts::{BookParts, ResultMap, ShownCells, shown};
 use calc_addr::{Area, Cell, NoMemory};
 use calc_model::{Content, Edit, EditCause, MOST_CELLS, Seen};
+use formula_groups::Group;
 use formula_printer::print_content;
 use plain_evaluator::evaluate;
 use std::alloc::Global;
@@ -291,6 +294,26 @@ impl Workbook {
             → (q : Place) → shown_values result q ≡ val self.now.book q }
     {
         ShownCells::of(&self.cells, &self.results)
+    }
+
+    /// The formula groups of a column, downwards: its maximal runs of formulas with one relative form. It
+    /// takes no time.
+    pub fn groups(&self, sheet: u8, col: u16) -> &[Group]
+        requires { IsSheetColumn sheet col }
+        ensures groups { map (rows_of_group sheet col) result.now
+            ≡ map (rows_of_run sheet col) (groups_in self.now.book sheet col) }
+        ensures rows { AllLie (map (rows_of_group sheet col) result.now) }
+    {
+        self.cells.groups(sheet, col)
+    }
+
+    /// The blocks of a column, downwards: its maximal runs of cells of one kind. It takes no time.
+    pub fn blocks(&self, sheet: u8, col: u16) -> &[Block]
+        requires { IsSheetColumn sheet col }
+        ensures blocks { result.now ≡ blocks_in self.now.book sheet col }
+        ensures rows { AllLie (map (rows_of_block sheet col) result.now) }
+    {
+        self.cells.blocks(sheet, col)
     }
 
     /// Appends the printed content of a cell. It takes the logarithm of the blocks of its column, and is
