@@ -1,4 +1,5 @@
 pub mod Records
+pub mod ColumnLines
 pub mod Output
 pub mod Ending
 pub mod Runs

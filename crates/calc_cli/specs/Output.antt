@@ -3,7 +3,7 @@
 -- `make` writes `made C cells, F formulas`, the numbers of the new book's cells and formulas.
 -- `calc` writes `recalculated N`, where N is the number of stale formulas, and recalculates. `print`
 -- recalculates and writes what its cells show, each evaluated alone from scratch; `formulas` writes what
--- they hold. After a recalculation no formula is stale, and each watcher is told what changed. `watch` recalculates and
+-- they hold; `groups` and `blocks` write the groups and the blocks of a column. After a recalculation no formula is stale, and each watcher is told what changed. `watch` recalculates and
 -- attaches a watcher from the stock, `told` writes what the watchers were told, and `unwatch` drops the last. What a field of a line holds is given: `field` says it
 -- of each text.
 use Rattle.std.specs.Prelude.{ℕ, ◌+◌, ◌-◌, ◌==◌, ◌||◌, Bool, true, false, List, [], ◌∷◌, ◌++◌, length, map, take, codes, Result, Ok, Err, if◌then◌else◌}
@@ -28,6 +28,7 @@ use Rattle.calc_script.specs.declared.command.Command.TheVariants as commands
 use Rattle.calc_script.specs.declared.command.Cause.{Cause}
 use Rattle.calc_script.specs.declared.command.Cause.TheVariants as causes
 use Rattle.calc_script.specs.Commands.{line_of, cause_word}
+use Rattle.calc_cli.specs.ColumnLines.{blocks_text, groups_text}
 use Rattle.calc_cli.specs.Records.{held_texts, printed_area, shown_texts}
 
 -- a book, which of its formulas are stale, the watchers that are attached, and how many more are in stock
@@ -100,8 +101,8 @@ done session number commands.Told =
 done session number commands.Unwatch =
     if length session.watchers == 0 then refusal session number causes.NoWatcher
     else accepted (without_watcher session) []
--- the other commands aren't built yet
-done session number _ = refusal session number causes.BadCommand
+done session number (commands.Groups sheet col) = accepted session (groups_text session.book sheet col)
+done session number (commands.Blocks sheet col) = accepted session (blocks_text session.book sheet col)
 
 unfoldable pub answer : Session → ℕ → Line → Answer
 answer session number Nothing = accepted session []

@@ -14,11 +14,11 @@ use crate::status::{
     SINK_FAILED,
 };
 use crate::written::write_all;
+use book_parts::BookParts;
 use calc_addr::NoMemory;
 use calc_book::{BookCause, push_cause};
 use calc_io::{DeviceFault, Sink};
 use calc_watch::Watcher;
-use book_parts::BookParts;
 use std::alloc::Global;
 use workbook::Workbook;
 

@@ -9,10 +9,10 @@ ghost use Rattle.calc_cli.specs.Runs.{IsEnding, TakesAtMost, Tells};
 
 use crate::input_bytes::{Input, read_all};
 use crate::limits::MOST_SCRIPT_BYTES;
+use book_parts::BookParts;
 use calc_book::{BookCause, BookFault, MOST_BYTES, load};
 use calc_io::{Desk, DeviceFault};
 use calc_model::Text;
-use book_parts::BookParts;
 use std::alloc::Global;
 use std::thread::Threads;
 

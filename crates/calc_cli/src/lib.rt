@@ -2,6 +2,7 @@
 #![tactic(auto)]
 
 mod cell_texts;
+mod column_lines;
 mod command;
 mod end;
 mod input_bytes;

@@ -2,12 +2,15 @@
 ghost use Rattle.std.specs.Prelude.{◌≡◌, IfOk, false, true};
 ghost use Rattle.calc_model.specs.Step.{is_makeable, step};
 ghost use Rattle.calc_script.specs.Commands.{is_makeable_command, is_makeable_line};
+ghost use Rattle.cell_columns.specs.ColumnRuns.{IsSheetColumn};
+ghost use Rattle.calc_cli.specs.ColumnLines.{blocks_text, groups_text};
 ghost use Rattle.calc_cli.specs.Output.{accepted, answer, done, edit_text, edited, recalculated, recalculation, refusal_text};
 ghost use Rattle.calc_cli.specs.Records.{held_texts, printed_area, shown_texts};
 ghost use Rattle.calc_cli.specs.Sessions.{Replies, session_of};
 ghost use Rattle.calc_model.specs.Val.{val};
 
 use crate::cell_texts::{Held, Shown};
+use crate::column_lines::{block_lines, group_lines};
 use crate::records::print_area;
 use crate::session::Session;
 use calc_addr::{Area, NoMemory};
@@ -62,8 +65,8 @@ fn do_command<W: Watcher>(
         Command::Watch(area) => watch(alloc, session, number, *area),
         Command::Told => tell(alloc, session, number),
         Command::Unwatch => unwatch(alloc, session, number),
-        // The other commands aren't built yet.
-        Command::Groups { .. } | Command::Blocks { .. } => refuse(alloc, number, Cause::BadCommand),
+        Command::Groups { sheet, col } => list_groups(alloc, session, *sheet, *col),
+        Command::Blocks { sheet, col } => list_blocks(alloc, session, *sheet, *col),
     }
 }
 
@@ -140,6 +143,32 @@ fn print_held<W: Watcher>(
         workbook: &session.workbook,
     };
     Ok(accept(print_area(alloc, &held, area)?))
+}
+
+fn list_groups<W: Watcher>(
+    alloc: Global,
+    session: &Session<W>,
+    sheet: u8,
+    col: u16,
+) -> Result<Reply, NoMemory>
+    requires { IsSheetColumn sheet col }
+    ensures { Replies result (session_of session.now) (accepted (session_of session.now)
+        (groups_text (session_of session.now).book sheet col)) }
+{
+    Ok(accept(group_lines(alloc, &session.workbook, sheet, col)?))
+}
+
+fn list_blocks<W: Watcher>(
+    alloc: Global,
+    session: &Session<W>,
+    sheet: u8,
+    col: u16,
+) -> Result<Reply, NoMemory>
+    requires { IsSheetColumn sheet col }
+    ensures { Replies result (session_of session.now) (accepted (session_of session.now)
+        (blocks_text (session_of session.now).book sheet col)) }
+{
+    Ok(accept(block_lines(alloc, &session.workbook, sheet, col)?))
 }
 
 fn watch<W: Watcher>(
