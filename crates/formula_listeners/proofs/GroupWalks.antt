@@ -1,5 +1,5 @@
 -- A walk over the groups of a column: after each of them the rows of a run that it has, or one before it, are held.
-use Rattle.std.proofs.Common.{◌≡◌, ◌≤◌, ◌<◌, ℕ, zero, suc, ◌+◌, ◌-◌, Bool, true, false, cond, ◌&&◌, nat_le, max, min, List, [], ◌∷◌, map, length, take, get_or, Option, None, Some, refl, sym, ap, subst, ◌∙◌, arith}
+use Rattle.std.proofs.Common.{◌≡◌, ◌≤◌, ◌<◌, ℕ, zero, suc, ◌+◌, ◌-◌, Bool, true, false, cond, ◌&&◌, nat_le, List, [], ◌∷◌, map, length, take, get_or, Option, None, Some, refl, sym, ap, subst, ◌∙◌, arith}
 use Rattle.std.specs.Prelude.{◌==◌}
 use Rattle.std.specs.Option.{option_map}
 use Rattle.std.specs.List.{AllByRecursion}
@@ -88,33 +88,6 @@ entry_more row p (suc i) (x ∷ t) d rise h =
     ap (λ n. entry row (take n (x ∷ t))) next
     ∙ ap (λ e. cond (has x row) (Some x.key) e) (entry_more row (x.last + 1) i t d rise.2 (omega (arith, h)))
     ∙ swap (has x row) (has g row) (Some x.key) (Some g.key) (entry row (take i t)) (λ there. not_in x row (past x g row behind there))
-
--- a part of a run's rows
-pub part_is : (rows : Rows) (g : Group) (q : Place) → is_in (record { sheet = rows.sheet; col = rows.col; first = max g.first rows.first; last = min g.last rows.last }) q ≡ is_in_group rows g q
-part_is rows g q = shuffle (q.sheet == rows.sheet && q.col == rows.col) (nat_le (max g.first rows.first) q.row) (nat_le q.row (min g.last rows.last)) (nat_le g.first q.row) (nat_le rows.first q.row) (nat_le q.row g.last) (nat_le q.row rows.last) (high g.first rows.first q.row) (low g.last rows.last q.row)
-  where
-    high : (a b row : ℕ) → nat_le (max a b) row ≡ (nat_le a row && nat_le b row)
-    high a b row = grind (arith, nat_tests)
-
-    low : (a b row : ℕ) → nat_le row (min a b) ≡ (nat_le row a && nat_le row b)
-    low a b row = grind (arith, nat_tests)
-
-    shuffle : (s u v a b x y : Bool) → u ≡ (a && b) → v ≡ (x && y) → (s && (u && v)) ≡ ((s && (b && y)) && (a && x))
-    shuffle s u v a b x y is are = ap (λ t. s && (t && v)) is ∙ ap (λ t. s && ((a && b) && t)) are ∙ both s a b x y
-      where
-        both : (s a b x y : Bool) → (s && ((a && b) && (x && y))) ≡ ((s && (b && y)) && (a && x))
-        both false a b x y = refl
-        both true false false x y = refl
-        both true false true x true = refl
-        both true false true x false = refl
-        both true true false x y = refl
-        both true true true true true = refl
-        both true true true true false = refl
-        both true true true false true = refl
-        both true true true false false = refl
-
-pub no_part : (rows : Rows) (g : Group) (q : Place) → min g.last rows.last < max g.first rows.first → is_in_group rows g q ≡ false
-no_part rows g q none = sym (part_is rows g q) ∙ grind (arith, nat_tests, none)
 
 -- what is held when the first groups are
 abbrev pub held_by : List Group → Codes → NameEntries → Rows → ReadAreas → ℕ → ReadAreas
