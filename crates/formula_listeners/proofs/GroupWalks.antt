@@ -1,22 +1,24 @@
 -- A walk over the groups of a column: after each of them the rows of a run that it has, or one before it, are held.
-use Rattle.std.proofs.Common.{◌≡◌, ◌≤◌, ◌<◌, ℕ, zero, suc, ◌+◌, ◌-◌, Bool, true, false, cond, ◌&&◌, nat_le, max, min, List, [], ◌∷◌, map, length, take, get_or, Option, None, Some, refl, sym, ap, subst, ◌∙◌, arith}
+use Rattle.std.proofs.Common.{◌≡◌, ◌≤◌, ◌<◌, ℕ, zero, suc, ◌+◌, ◌-◌, Bool, true, false, cond, ◌&&◌, nat_le, List, [], ◌∷◌, map, length, take, get_or, Option, None, Some, refl, sym, ap, subst, ◌∙◌, arith}
 use Rattle.std.specs.Prelude.{◌==◌}
 use Rattle.std.specs.Option.{option_map}
-use Rattle.std.proofs.lemmas.Bool.{and_parts}
+use Rattle.std.specs.List.{AllByRecursion}
+use Rattle.std.proofs.lemmas.Bool.{and_parts, cond_both}
 use Rattle.std.proofs.lemmas.Bool.Decides.{Decides-eqb, nat_tests}
+use Rattle.std.proofs.lemmas.List.Elements.{All-from_recursion}
 use Rattle.std.proofs.lemmas.List.{get_or-map, length-map, take-map, take_all}
 use Rattle.std.proofs.lemmas.Option.{get_or_from_slice_get}
 use Rattle.calc_addr.specs.declared.cell.TheConstants.{LAST_ROW}
 use Rattle.calc_addr.specs.Places.{IsRows, Place, Rectangle, Rows}
 use Rattle.calc_model.specs.Books.{NameEntries}
 use Rattle.calc_model.specs.Listeners.{ReadAreas}
-use Rattle.run_tables.specs.Runs.{Rises, Run, entry}
+use Rattle.run_tables.specs.Runs.{Rises, Run, entry, meet, runs_from, touches}
 use Rattle.run_tables.proofs.Entries.{entries-row, entry-past}
 use Rattle.run_tables.proofs.RunLists.{runs-rise}
 use Rattle.formula_code.specs.Codes.{Codes}
 use Rattle.formula_groups.specs.declared.group.Group.{Group}
 use Rattle.formula_groups.specs.Groups.{group_run, codes_of, groups_of}
-use Rattle.formula_groups.proofs.Kept.{runs-of-table}
+use Rattle.formula_groups.proofs.Kept.{length-codes, runs-of-table}
 use Rattle.listener_hub.specs.Slab.{is_in}
 use Rattle.formula_listeners.specs.Coded.{areas_by_code, code_in_row, has_row, is_in_group}
 use Rattle.formula_listeners.proofs.InRuns.{lies_in, under}
@@ -49,6 +51,25 @@ entry_there row p (suc i) (x ∷ t) d rise h there =
     let behind = begins_past (x.last + 1) i t d rise.2 (omega (arith, h)) in
     entry-past row x t (past x (get_or t i d) row behind there) ∙ entry_there row (x.last + 1) i t d rise.2 (omega (arith, h)) there
 
+in_order : (p j : ℕ) (t : List (Run ℕ)) (d : Run ℕ) → Rises p t → j < length t → (get_or t j d).first ≤ (get_or t j d).last
+in_order p j [] d rise h = absurd (omega (arith, h))
+in_order p zero (x ∷ t) d rise h = rise.1
+in_order p (suc j) (x ∷ t) d rise h = in_order (x.last + 1) j t d rise.2 (omega (arith, h))
+
+-- runs begin in the rows whose runs they are
+module _ (same : ℕ → ℕ → Bool) (m : ℕ) where
+  abbrev BeginWithin : List (Run ℕ) → Type 0
+  BeginWithin t = AllByRecursion (λ (x : Run ℕ). x.first < m) t
+
+  meets_within : (u : Run ℕ) (t : List (Run ℕ)) → u.first < m → BeginWithin t → BeginWithin (meet same u t)
+  meets_within u [] h all = (h, tt)
+  meets_within u (x ∷ t) h all = cond_both (touches same u x) (record u { last = x.last } ∷ t) (u ∷ x ∷ t) BeginWithin (λ e. (h, all.1)) (λ e. (h, all))
+
+  begin_within : (p : ℕ) (s : List (Option ℕ)) → p + length s ≤ m → BeginWithin (runs_from same p s)
+  begin_within p [] h = tt
+  begin_within p (None ∷ s) h = begin_within (p + 1) s (omega (arith, h))
+  begin_within p (Some k ∷ s) h = meets_within (record { first = p; last = p; key = k }) (runs_from same (p + 1) s) (omega (arith, h)) (begin_within (p + 1) s (omega (arith, h)))
+
 swap : {X : Type 0} (a b : Bool) (u v w : X) → (b ≡ true → a ≡ false) → cond a u (cond b v w) ≡ cond b v (cond a u w)
 swap true true u v w apart = let clash : true ≡ false = apart refl in cc
 swap true false u v w apart = refl
@@ -68,33 +89,6 @@ entry_more row p (suc i) (x ∷ t) d rise h =
     ∙ ap (λ e. cond (has x row) (Some x.key) e) (entry_more row (x.last + 1) i t d rise.2 (omega (arith, h)))
     ∙ swap (has x row) (has g row) (Some x.key) (Some g.key) (entry row (take i t)) (λ there. not_in x row (past x g row behind there))
 
--- a part of a run's rows
-pub part_is : (rows : Rows) (g : Group) (q : Place) → is_in (record { sheet = rows.sheet; col = rows.col; first = max g.first rows.first; last = min g.last rows.last }) q ≡ is_in_group rows g q
-part_is rows g q = shuffle (q.sheet == rows.sheet && q.col == rows.col) (nat_le (max g.first rows.first) q.row) (nat_le q.row (min g.last rows.last)) (nat_le g.first q.row) (nat_le rows.first q.row) (nat_le q.row g.last) (nat_le q.row rows.last) (high g.first rows.first q.row) (low g.last rows.last q.row)
-  where
-    high : (a b row : ℕ) → nat_le (max a b) row ≡ (nat_le a row && nat_le b row)
-    high a b row = grind (arith, nat_tests)
-
-    low : (a b row : ℕ) → nat_le row (min a b) ≡ (nat_le row a && nat_le row b)
-    low a b row = grind (arith, nat_tests)
-
-    shuffle : (s u v a b x y : Bool) → u ≡ (a && b) → v ≡ (x && y) → (s && (u && v)) ≡ ((s && (b && y)) && (a && x))
-    shuffle s u v a b x y is are = ap (λ t. s && (t && v)) is ∙ ap (λ t. s && ((a && b) && t)) are ∙ both s a b x y
-      where
-        both : (s a b x y : Bool) → (s && ((a && b) && (x && y))) ≡ ((s && (b && y)) && (a && x))
-        both false a b x y = refl
-        both true false false x y = refl
-        both true false true x true = refl
-        both true false true x false = refl
-        both true true false x y = refl
-        both true true true true true = refl
-        both true true true true false = refl
-        both true true true false true = refl
-        both true true true false false = refl
-
-pub no_part : (rows : Rows) (g : Group) (q : Place) → min g.last rows.last < max g.first rows.first → is_in_group rows g q ≡ false
-no_part rows g q none = sym (part_is rows g q) ∙ grind (arith, nat_tests, none)
-
 -- what is held when the first groups are
 abbrev pub held_by : List Group → Codes → NameEntries → Rows → ReadAreas → ℕ → ReadAreas
 held_by gs codes names rows old i q = cond (is_in rows q) (option_map (areas_by_code codes names q) (entry q.row (map group_run (take i gs)))) (old q)
@@ -110,10 +104,35 @@ module _ (gs : List Group) (are : gs ≡ groups_of (codes_of gs)) where
   rises = subst (Rises 1) (sym (runs-of-table gs entries are)) (runs-rise (λ k l. k == l) Decides-eqb 1 entries)
 
   -- the groups give each row its code
-  row_code : (row : ℕ) → 1 ≤ row → row ≤ LAST_ROW → entry row runs ≡ code_in_row entries row
+  pub row_code : (row : ℕ) → 1 ≤ row → row ≤ LAST_ROW → entry row runs ≡ code_in_row entries row
   row_code row from to =
       sym (get_or_from_slice_get entries (row - 1) (entry row runs) None
       (entries-row LAST_ROW row runs from to))
+
+  run_at : (i : ℕ) (g : Group) → i < length gs → g ≡ get_or gs i g → get_or runs i (group_run g) ≡ group_run g
+  run_at i g within is = get_or-map group_run gs i g (group_run g) within ∙ ap group_run (sym is)
+
+  among : (i : ℕ) → i < length gs → i < length runs
+  among i within = subst (λ n. i < n) (sym (length-map gs group_run)) within
+
+  -- a group's first row has its code
+  pub first_code : (i : ℕ) (g : Group) → i < length gs → g ≡ get_or gs i g → (1 ≤ g.first) × (g.first ≤ LAST_ROW) × (code_in_row entries g.first ≡ Some g.code)
+  first_code i g within is =
+      let at = run_at i g within is in
+      let low : 1 ≤ g.first = subst (λ (r : Run ℕ). 1 ≤ r.first) at (begins_past 1 i runs (group_run g) rises (among i within)) in
+      let order : g.first ≤ g.last = subst (λ (r : Run ℕ). r.first ≤ r.last) at (in_order 1 i runs (group_run g) rises (among i within)) in
+      let rows : BeginWithin (λ k l. k == l) (LAST_ROW + 1) runs = subst (BeginWithin (λ k l. k == l) (LAST_ROW + 1)) (sym (runs-of-table gs entries are)) (begin_within (λ k l. k == l) (LAST_ROW + 1) 1 entries (omega (arith, length-codes gs))) in
+      let high : g.first < LAST_ROW + 1 = subst (λ (r : Run ℕ). r.first < LAST_ROW + 1) at (All-from_recursion (λ (r : Run ℕ). r.first < LAST_ROW + 1) runs rows i (group_run g) (among i within)) in
+      let there : has (group_run g) g.first ≡ true = inside_itself g.first g.last order in (
+        low,
+        omega (arith, high),
+        sym (row_code g.first low (omega (arith, high)))
+            ∙ entry_there g.first 1 i runs (group_run g) rises (among i within) (ap (λ r. has r g.first) at ∙ there)
+            ∙ ap (λ (r : Run ℕ). Some r.key) at,
+      )
+    where
+      inside_itself : (a b : ℕ) → a ≤ b → (nat_le a a && nat_le a b) ≡ true
+      inside_itself a b order = grind (arith, nat_tests, order)
 
   module _ (codes : Codes) (names : NameEntries) (rows : Rows) (old : ReadAreas) where
     module _ (i : ℕ) (g : Group) (within : i < length gs) (is : g ≡ get_or gs i g) where

@@ -3,7 +3,7 @@
 -- one of all columns.
 -- BookReads: what the formulas of a book read, by their codes.
 -- MovedTrees, MovedBooks, MovedRows: what formulas read after rows went. Unchanged: edits that leave what they read.
--- WholeBooks: a hub of all formulas of a book.
+-- NameUsers, RenewedRows: formulas that don't use a name read what they did. WholeBooks: a hub of all formulas of a book.
 pub mod EarsLie
 pub mod InRuns
 pub mod GroupWalks
@@ -15,3 +15,5 @@ pub mod MovedBooks
 pub mod MovedRows
 pub mod Unchanged
 pub mod WholeBooks
+pub mod NameUsers
+pub mod RenewedRows

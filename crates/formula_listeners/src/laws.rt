@@ -2,13 +2,14 @@
 ghost use Rattle.std.specs.Prelude.{◌≡◌, ℕ, List, false, true};
 ghost use Rattle.std.specs.List.{list_any};
 ghost use Rattle.calc_addr.specs.Places.{Place, Rectangle, covers};
-ghost use Rattle.calc_model.specs.Books.{Book, content_at, is_formula};
+ghost use Rattle.calc_model.specs.Books.{Book, NameEntries, content_at, is_formula};
 ghost use Rattle.calc_model.specs.Listeners.{ReadAreas};
 ghost use Rattle.calc_model.specs.NamedAreas.{names_after_deletion, names_after_insertion, with_name, without_name};
 ghost use Rattle.calc_model.specs.RowEdits.{cells_after_deletion, cells_after_insertion, is_pushed_out};
 ghost use Rattle.calc_model.specs.UsedNames.{uses_name};
 ghost use Rattle.listener_hub.specs.Moves.{IsMoved, KeepsAll, deletion, insertion};
 ghost use Rattle.formula_listeners.specs.Held.{HoldsOutside, HoldsReads};
+ghost use Rattle.formula_listeners.specs.Renamed.{AgreeElsewhere};
 
 /// An edit of an area's cells changes what these read, and nothing else. Where no formula is left in the
 /// area, all is held that is held outside it.
@@ -50,4 +51,13 @@ pub fn reads_go_with_names()
         → after.cells ≡ book.cells → after.names ≡ without_name book.names name
         → ((q : Place) → uses_name name (content_at book q) ≡ false)
         → HoldsReads read book → HoldsReads read after }
+{}
+
+/// A name that gets an area, or goes, leaves what other names stand for, whatever the case of their ASCII
+/// letters.
+pub fn names_agree_elsewhere()
+    ensures named { (entries : NameEntries) (name : List ℕ) (area : Rectangle)
+        → AgreeElsewhere name entries (with_name entries name area) }
+    ensures unnamed { (entries : NameEntries) (name : List ℕ)
+        → AgreeElsewhere name entries (without_name entries name) }
 {}

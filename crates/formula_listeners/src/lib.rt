@@ -5,8 +5,12 @@ mod areas;
 mod laws;
 mod rows;
 mod runs;
+mod users;
 mod whole;
 
 pub use areas::{listen_area, listen_cell, silence};
-pub use laws::{reads_go_with_cells, reads_go_with_names, reads_go_with_rows};
+pub use laws::{
+    names_agree_elsewhere, reads_go_with_cells, reads_go_with_names, reads_go_with_rows,
+};
+pub use users::listen_users;
 pub use whole::listen_all;

@@ -81,7 +81,7 @@ fn listen_groups<N: NameTable>(
 }
 
 /// The number of a run's column among those of all sheets.
-fn number_of(run: &Run) -> usize
+pub(crate) fn number_of(run: &Run) -> usize
     ensures number { result ≡ number_of run.now.sheet run.now.col }
     ensures among { result < (LAST_SHEET + 1) * LAST_COL }
 {
