@@ -51,3 +51,4 @@ pub mod SheetShifted
 pub mod ColumnShifted
 pub mod BookShifted
 pub mod ColumnsMoved
+pub mod Gathering

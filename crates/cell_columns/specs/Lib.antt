@@ -8,6 +8,7 @@
 -- Looks: what is lent of a cell's content.
 -- Walks: the rows of a column that hold something, and the cells that they are.
 -- Shifted: where cells go with a change of rows.
+-- Gathered: the formulas that don't keep their codes.
 pub mod Cells
 pub mod Uses
 pub mod Sheets
@@ -18,3 +19,4 @@ pub mod Emptied
 pub mod Looks
 pub mod Walks
 pub mod Shifted
+pub mod Gathered

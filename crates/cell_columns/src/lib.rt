@@ -2,6 +2,7 @@
 #![tactic(auto)]
 
 mod cells;
+mod changing;
 mod columns;
 mod counting;
 mod emptying;
