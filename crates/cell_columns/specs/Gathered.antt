@@ -16,6 +16,10 @@ abbrev pub Among : Place → List Place → Type 0
 Among q [] = ⊥
 Among q (p ∷ ps) = (p ≡ q) ⊎ Among q ps
 
+-- one cell, with one code
+abbrev pub IsFormula : Place → ℕ → Place → ℕ → Type 0
+IsFormula home code q id = (q ≡ home) × (id ≡ code)
+
 -- a cell of some rows of a column, whose formula has the code
 pub record InRows (number first behind code : ℕ) (q : Place) (id : ℕ) : Type 0 where
   pub row : ℕ

@@ -2,14 +2,15 @@
 ghost use Rattle.std.specs.Prelude.{◌≡◌, ◌≤◌, ◌<◌, ℕ, OnOk, length};
 ghost use Rattle.calc_addr.specs.Places.{Place};
 ghost use Rattle.calc_model.specs.Changes.{IsChange};
-ghost use Rattle.cell_columns.specs.Gathered.{Formulas, Gathers, InColumns, InGroups, InRows, behind_of};
+ghost use Rattle.formula_code.specs.Codes.{IsCodeAt};
+ghost use Rattle.cell_columns.specs.Gathered.{Formulas, Gathers, InColumns, InGroups, InRows, IsFormula, behind_of};
 ghost use Rattle.cell_columns.specs.Lent.{codes_of};
 ghost use Rattle.cell_columns.specs.Shifted.{StaysIn, goes};
 
 use crate::columns::COLUMNS;
 use crate::walking::cell_in;
 use calc_addr::{Cell, LAST_ROW, NoMemory};
-use calc_model::{Change, home_after_deletion, home_after_insertion};
+use calc_model::{Change, CodeId, home_after_deletion, home_after_insertion};
 use formula_code::CodeTable;
 use formula_groups::{Group, GroupColumn};
 
@@ -34,6 +35,28 @@ pub(crate) fn home_after(change: Change, home: Cell) -> Cell
     }
 }
 
+/// Appends a formula's cell, unless the formula keeps its code.
+fn push_formula(
+    codes: &CodeTable,
+    id: CodeId,
+    home: Cell,
+    change: Change,
+    out: &mut Vec<Cell>,
+) -> Result<(), NoMemory>
+    requires change { IsChange change }
+    requires at { IsCodeAt codes.now id home }
+    requires stays { StaysIn change home }
+    ensures { OnOk result
+        (Gathers codes.now change (IsFormula home id) out.old.items out.new.items) }
+{
+    let to = home_after(change, home);
+    if codes.stays(id, home, change, to) {
+        return Ok(());
+    }
+    out.push(home)?;
+    Ok(())
+}
+
 /// Appends the cells of a group whose formulas don't keep their code. Linear in its rows and the nodes of its
 /// formula.
 fn push_group(
@@ -51,11 +74,13 @@ fn push_group(
     ensures { OnOk result (Gathers codes.now change
         (InRows number group.first (behind_of group) group.code) out.old.items out.new.items) }
 {
-    for row in group.first..group.last.min(LAST_ROW) + 1 {
+    let behind = group.last.min(LAST_ROW) + 1;
+    if behind < group.first {
+        return Ok(());
+    }
+    for row in group.first..behind {
         let home = cell_in(number, row);
-        if !codes.stays(group.code, home, change, home_after(change, home)) {
-            out.push(home)?;
-        }
+        push_formula(codes, group.code, home, change, out)?;
     }
     Ok(())
 }
