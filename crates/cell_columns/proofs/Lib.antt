@@ -52,3 +52,4 @@ pub mod ColumnShifted
 pub mod BookShifted
 pub mod ColumnsMoved
 pub mod Gathering
+pub mod Visited

@@ -4,12 +4,16 @@ use Rattle.std.specs.List.{list_all}
 use Rattle.calc_addr.specs.declared.cell.TheConstants.{LAST_ROW}
 use Rattle.calc_addr.specs.Places.{IsPlace, Place}
 use Rattle.calc_model.specs.declared.change.Change.{Change}
+use Rattle.calc_model.specs.declared.content.Content.TheVariants.{Formula}
+use Rattle.calc_model.specs.declared.tree.Tree.{Tree}
+use Rattle.calc_model.specs.Books.{content_at}
+use Rattle.calc_model.specs.CellEdits.{CellEntries}
 use Rattle.formula_code.specs.Codes.{Codes, IsCodeAt, form_at, tree_at}
 use Rattle.formula_code.specs.Relative.{relative}
 use Rattle.formula_groups.specs.declared.group.Group.{Group}
 use Rattle.formula_groups.specs.Groups.{groups_of}
-use Rattle.cell_columns.specs.Cells.{cell_in}
-use Rattle.cell_columns.specs.Shifted.{StaysIn, goes, tree_after}
+use Rattle.cell_columns.specs.Cells.{cell_in, cells_only}
+use Rattle.cell_columns.specs.Shifted.{KeepsForm, StaysIn, goes, tree_after}
 
 -- the place is one of these
 abbrev pub Among : Place → List Place → Type 0
@@ -57,3 +61,7 @@ pub record Gathers (codes : Codes) (change : Change) (visited : Place → ℕ �
   pub kept : (q : Place) → Among q old → Among q new
   pub told : (q : Place) (id : ℕ) → visited q id → KeepsCode codes change id q ⊎ Among q new
   pub only : (test : Place → Bool) → ((q : Place) (id : ℕ) → visited q id → test q ≡ true) → list_all test old ≡ true → list_all test new ≡ true
+
+-- The relative form of each formula is the same afterwards, or its cell is one of these.
+abbrev pub AllKeepOrAre : Change → CellEntries → List Place → Type 0
+AllKeepOrAre change cells places = (q : Place) → IsPlace q → (tree : Tree) → content_at (cells_only cells) q ≡ Formula tree → KeepsForm change q tree ⊎ Among q places

@@ -1,18 +1,22 @@
 //! The formulas that don't keep their codes with a change of rows.
-ghost use Rattle.std.specs.Prelude.{◌≡◌, ◌≤◌, ◌<◌, ℕ, OnOk, length};
+ghost use Rattle.std.specs.Prelude.{◌≡◌, ◌≤◌, ◌<◌, ℕ, true, IfOk, OnOk, length};
+ghost use Rattle.std.specs.List.{list_all};
+ghost use Rattle.calc_model.specs.Books.{content_at, is_formula};
+ghost use Rattle.cell_columns.specs.Cells.{cells_only};
 ghost use Rattle.calc_addr.specs.Places.{Place};
 ghost use Rattle.calc_model.specs.Changes.{IsChange};
 ghost use Rattle.formula_code.specs.Codes.{IsCodeAt};
-ghost use Rattle.cell_columns.specs.Gathered.{Formulas, Gathers, InColumns, InGroups, InRows, IsFormula, behind_of};
+ghost use Rattle.cell_columns.specs.Gathered.{AllKeepOrAre, Formulas, Gathers, InColumns, InGroups, InRows, IsFormula, behind_of};
 ghost use Rattle.cell_columns.specs.Lent.{codes_of};
-ghost use Rattle.cell_columns.specs.Shifted.{StaysIn, goes};
+ghost use Rattle.cell_columns.specs.Shifted.{AllStayIn, StaysIn, goes};
 
-use crate::columns::COLUMNS;
+use crate::columns::{COLUMNS, CellColumns};
 use crate::walking::cell_in;
 use calc_addr::{Cell, LAST_ROW, NoMemory};
 use calc_model::{Change, CodeId, home_after_deletion, home_after_insertion};
 use formula_code::CodeTable;
 use formula_groups::{Group, GroupColumn};
+use std::alloc::Global;
 
 /// The cell to which a cell goes.
 pub(crate) fn home_after(change: Change, home: Cell) -> Cell
@@ -124,4 +128,20 @@ pub(crate) fn push_changing(
         push_groups(codes, number, groups[number].groups(), change, out)?;
     }
     Ok(())
+}
+
+impl CellColumns {
+    /// The cells of the formulas that don't keep their codes with a change of rows. Linear in the nodes of
+    /// all formulas.
+    pub(crate) fn changing(&self, alloc: Global, change: Change) -> Result<Vec<Cell>, NoMemory>
+        requires change { IsChange change }
+        requires stay { AllStayIn change self.now }
+        ensures formulas { IfOk result (λ cells.
+            list_all (λ q. is_formula (content_at (cells_only self.now) q)) cells.items ≡ true) }
+        ensures others { IfOk result (λ cells. AllKeepOrAre change self.now cells.items) }
+    {
+        let mut cells = Vec::new(alloc);
+        push_changing(&self.table, &self.groups, change, &mut cells)?;
+        Ok(cells)
+    }
 }
