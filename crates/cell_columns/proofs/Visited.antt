@@ -60,12 +60,12 @@ in_runs number row id to [] is = cc
 in_runs number row id to (x ∷ t) is =
     elim (nat_le x.first row && nat_le row x.last) as (λ b. (nat_le x.first row && nat_le row x.last) ≡ b → cond b (Some x.key) (entry row t) ≡ Some id → InGroups number (map a_group (x ∷ t)) (cell_in number row) id) [
       | true ↦ λ within is. inl (record {
-          row = row;
-          from = grind (arith, nat_tests, within);
-          to = grind (arith, nat_tests, within, to);
-          at = refl;
-          coded = sym (bare x.key id is);
-        })
+        row = row;
+        from = grind (arith, nat_tests, within);
+        to = grind (arith, nat_tests, within, to);
+        at = refl;
+        coded = sym (bare x.key id is);
+      })
       | false ↦ λ _ is. inr (in_runs number row id to t is)
     ] refl is
 

@@ -10,6 +10,7 @@ mod looking;
 mod making;
 mod reading;
 mod release;
+mod resetting;
 mod shifting;
 mod slots;
 mod walking;

@@ -1,6 +1,5 @@
-use Rattle.std.proofs.Common.{◌≡◌, ℕ, ◌<◌, List, [], length, Option, sym, ap, subst, ◌∙◌, arith}
+use Rattle.std.proofs.Common.{◌≡◌, ℕ, ◌<◌, List, [], length, sym, ap, subst, ◌∙◌, arith}
 use Rattle.std.specs.Prelude.{slice_index_or}
-use Rattle.formula_groups.specs.declared.group.Group.{Group}
 use Rattle.formula_groups.specs.GroupRows.{GroupRows}
 use Rattle.formula_groups.specs.Groups.{groups_of}
 use Rattle.cell_columns.specs.Gathered.{Gathers, InGroups}

@@ -1,4 +1,4 @@
-use Rattle.std.proofs.Common.{List, ◌∷◌, [], ◌++◌, sym, subst, ◌∙◌}
+use Rattle.std.proofs.Common.{List, sym, subst}
 use Rattle.calc_addr.specs.Places.{Place}
 use Rattle.cell_columns.specs.Gathered.{Gathers, IsFormula}
 use Rattle.cell_columns.proofs.Gathering.{one_added}

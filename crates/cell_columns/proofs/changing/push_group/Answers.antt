@@ -1,8 +1,7 @@
-use Rattle.std.proofs.Common.{◌≡◌, ℕ, ◌+◌, ◌≤◌, ◌<◌, List, refl, sym, ap, subst, ◌∙◌, arith}
-use Rattle.calc_addr.specs.Places.{Place}
+use Rattle.std.proofs.Common.{ℕ, ◌≤◌, ◌<◌, refl, sym, subst, arith}
 use Rattle.formula_code.specs.Codes.{IsCodeAt}
 use Rattle.cell_columns.specs.Cells.{cell_in}
-use Rattle.cell_columns.specs.Gathered.{Formulas, Gathers, InRows, IsFormula, behind_of}
+use Rattle.cell_columns.specs.Gathered.{Gathers, InRows, IsFormula, behind_of}
 use Rattle.cell_columns.specs.Shifted.{StaysIn}
 use Rattle.cell_columns.proofs.Gathering.{row_more, rows_end}
 use Rattle.cell_columns.proofs.changing.push_group.Goals as goal

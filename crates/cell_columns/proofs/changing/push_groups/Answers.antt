@@ -1,4 +1,4 @@
-use Rattle.std.proofs.Common.{◌≡◌, ℕ, List, sym, subst, take}
+use Rattle.std.proofs.Common.{subst}
 use Rattle.formula_groups.specs.declared.group.Group.{Group}
 use Rattle.cell_columns.specs.Gathered.{Gathers, InRows, behind_of}
 use Rattle.cell_columns.proofs.Gathering.{group_more, in_all_groups}
