@@ -1,17 +1,15 @@
 -- Columns and codes are those of a book while the columns of a sheet go with a change of rows, one after the other.
-use Rattle.std.proofs.Common.{◌≡◌, ◌≢◌, ℕ, suc, zero, ◌+◌, ◌*◌, ◌-◌, ◌≤◌, ◌<◌, ◌==◌, ◌&&◌, nat_le, nat_lt, true, false, List, [], ◌∷◌, ◌++◌, length, map, Option, ◌⊎◌, inl, inr, refl, sym, ap, subst, ◌∙◌, arith}
-use Rattle.std.specs.Prelude.{◌/◌, slice_index_or, sum_by}
+use Rattle.std.proofs.Common.{◌≡◌, ◌≢◌, ℕ, suc, ◌+◌, ◌*◌, ◌-◌, ◌≤◌, ◌<◌, ◌==◌, ◌&&◌, nat_le, nat_lt, true, false, List, [], ◌∷◌, ◌++◌, length, map, ◌⊎◌, inl, inr, refl, sym, ap, subst, ◌∙◌, arith}
+use Rattle.std.specs.Prelude.{◌/◌, sum_by}
 use Rattle.std.proofs.lemmas.Bool.{eq-eqb}
 use Rattle.std.proofs.lemmas.Bool.Decides.{Decides-eqb, nat_tests}
-use Rattle.calc_addr.specs.declared.cell.TheConstants.{LAST_COL, LAST_ROW, LAST_SHEET}
+use Rattle.calc_addr.specs.declared.cell.TheConstants.{LAST_COL}
 use Rattle.calc_addr.specs.Places.{IsPlace, Place}
 use Rattle.calc_model.specs.declared.change.Change.{Change}
-use Rattle.calc_model.specs.declared.content.Content.TheVariants as content
-use Rattle.calc_model.specs.declared.limits.TheConstants.{MOST_CELLS}
 use Rattle.calc_model.specs.Books.{is_held}
 use Rattle.calc_model.specs.CellEdits.{CellEntries}
 use Rattle.calc_model.specs.Changes.{IsChange}
-use Rattle.formula_code.specs.Codes.{Codes, form_at, has_valid_references, tree_at}
+use Rattle.formula_code.specs.Codes.{Codes, form_at, tree_at}
 use Rattle.formula_code.specs.Relative.{absolute, relative}
 use Rattle.formula_code.proofs.Distances.{tree_back}
 use Rattle.formula_code.proofs.FormsBack.{form_back}

@@ -1,5 +1,5 @@
 -- A column of the sheet whose rows change goes well.
-use Rattle.std.proofs.Common.{◌≡◌, ℕ, ◌+◌, ◌-◌, ◌≤◌, ◌<◌, ◌==◌, nat_le, nat_lt, true, false, cond, List, length, take, drop, sym, ap, refl, subst, ◌∙◌, arith}
+use Rattle.std.proofs.Common.{◌≡◌, ℕ, ◌+◌, ◌-◌, ◌≤◌, ◌<◌, ◌==◌, true, false, cond, List, length, take, drop, ap, refl, ◌∙◌, arith}
 use Rattle.std.specs.Prelude.{◌/◌, slice_index_or}
 use Rattle.std.proofs.lemmas.Bool.{eq-eqb}
 use Rattle.std.proofs.lemmas.Bool.Decides.{nat_tests}
@@ -8,7 +8,7 @@ use Rattle.calc_addr.specs.Places.{IsPlace, Place}
 use Rattle.calc_addr.specs.Shifts.{is_deleted, row_after_deletion, row_after_insertion}
 use Rattle.calc_model.specs.declared.change.Change.{Change}
 use Rattle.calc_model.specs.declared.change.Change.TheVariants.{Stays, Moves, Inserted, Deleted}
-use Rattle.calc_model.specs.Changes.{IsChange, IsShift}
+use Rattle.calc_model.specs.Changes.{IsChange}
 use Rattle.formula_code.specs.Codes.{Codes, tree_at}
 use Rattle.run_tables.specs.Rows.{rows_erased, rows_inserted}
 use Rattle.block_column.specs.declared.slot.Slot.TheVariants as slot
@@ -17,8 +17,7 @@ use Rattle.cell_columns.specs.declared.columns.TheConstants.{COLUMNS}
 use Rattle.cell_columns.specs.Cells.{Column, cell_in, column_at, slot_at}
 use Rattle.cell_columns.specs.Sheets.{AreSheets}
 use Rattle.cell_columns.specs.Shifted.{StaysIn, goes, rows_moved, sheet_of, tree_after}
-use Rattle.cell_columns.proofs.RowParts.{Meets}
-use Rattle.cell_columns.proofs.RowsMoved.{after_deletion, after_insertion, before_deletion, before_insertion, front_long, kept_long, left_long, length_erased, length_inserted}
+use Rattle.cell_columns.proofs.RowsMoved.{after_deletion, after_insertion, before_deletion, before_insertion, front_long, length_erased, length_inserted}
 use Rattle.cell_columns.proofs.SheetShifted.{MovesWell, gone, moves_nowhere, moves_parts}
 
 -- the row of a cell of that sheet

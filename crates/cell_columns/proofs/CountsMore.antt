@@ -2,7 +2,6 @@
 use Rattle.std.proofs.Common.{◌≡◌, ℕ, ◌+◌, ◌-◌, ◌≤◌, ◌<◌, List, [], ◌∷◌, ◌++◌, length, length-append, drop, refl, ap, ◌∙◌, arith}
 use Rattle.std.specs.Prelude.{sum_by}
 use Rattle.std.proofs.lemmas.List.Sums.{get_or-le-sum_by, sum_by-take-drop, sum_by-take-le}
-use Rattle.calc_addr.specs.Places.{Place}
 use Rattle.calc_model.specs.CellEdits.{CellEntries}
 use Rattle.calc_model.proofs.EntriesMoved.{length-filter}
 use Rattle.formula_code.specs.Codes.{Codes}

@@ -1,5 +1,5 @@
 -- Rows of a column that hold something, by its blocks and one after the other.
-use Rattle.std.proofs.Common.{◌≡◌, ℕ, suc, zero, ◌+◌, ◌-◌, ◌≤◌, ◌<◌, nat_le, nat_lt, Bool, true, false, cond, List, [], ◌∷◌, ◌++◌, length, take, drop, map, max, min, Option, Some, None, unwrap_or, refl, sym, ap, subst, ◌∙◌, arith}
+use Rattle.std.proofs.Common.{◌≡◌, ℕ, suc, zero, ◌+◌, ◌-◌, ◌≤◌, ◌<◌, nat_lt, true, false, cond, List, [], ◌∷◌, ◌++◌, length, take, drop, map, Option, Some, None, unwrap_or, refl, sym, ap, subst, ◌∙◌, arith}
 use Rattle.std.specs.Prelude.{slice_get, slice_index_or, sum_by}
 use Rattle.std.specs.List.{Contains}
 use Rattle.std.specs.Option.{option_map}
@@ -13,7 +13,6 @@ use Rattle.run_tables.proofs.RunLists.{runs-rise}
 use Rattle.block_column.specs.declared.slot.Slot.{Slot}
 use Rattle.block_column.specs.declared.slot.Slot.TheVariants as slot
 use Rattle.block_column.specs.declared.block.Kind.{Kind}
-use Rattle.block_column.specs.declared.block.Kind.TheVariants as kind
 use Rattle.block_column.specs.declared.block.Block.{Block}
 use Rattle.block_column.specs.Blocks.{a_block, block_run, blocks_of, kind_key}
 use Rattle.block_column.specs.Kinds.{is_filled, kind_of, same_kind}

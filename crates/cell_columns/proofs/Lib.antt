@@ -55,3 +55,5 @@ pub mod SheetShifted
 pub mod ColumnShifted
 pub mod BookShifted
 pub mod ColumnsMoved
+pub mod Gathering
+pub mod Visited

@@ -1,21 +1,20 @@
 -- Cells that are listed with what they hold.
-use Rattle.std.proofs.Common.{◌≡◌, ℕ, suc, zero, ◌<◌, Bool, true, false, cond, List, [], ◌∷◌, length, map, Option, Some, unwrap_or, refl, sym, ap, subst, ◌∙◌, arith}
+use Rattle.std.proofs.Common.{◌≡◌, ℕ, suc, zero, ◌<◌, Bool, true, false, cond, [], ◌∷◌, length, Some, unwrap_or, refl, ap, subst, ◌∙◌, arith}
 use Rattle.std.specs.Prelude.{slice_index_or}
 use Rattle.std.specs.List.{filter}
 use Rattle.std.specs.Ordering.{eq_by_cmp, is_lt}
 use Rattle.std.specs.FinMap.Entries.{below_all, find, is_sorted}
-use Rattle.calc_addr.specs.Places.{Place, Rectangle, covers, place_cmp}
+use Rattle.calc_addr.specs.Places.{Place, place_cmp}
 use Rattle.calc_model.specs.declared.content.Content.{Content}
 use Rattle.calc_model.specs.declared.content.Content.TheVariants as content
 use Rattle.calc_model.specs.Books.{content_at}
-use Rattle.calc_model.specs.CellEdits.{CellEntries, within_area}
+use Rattle.calc_model.specs.CellEdits.{CellEntries}
 use Rattle.calc_model.proofs.Areas.{both_true}
-use Rattle.calc_model.proofs.Places.{places_total, same_places}
+use Rattle.calc_model.proofs.Places.{same_places}
 use Rattle.calc_model.proofs.Reached.{same_cell}
 use Rattle.cell_columns.specs.Cells.{cells_only}
 use Rattle.cell_columns.specs.Looks.{with_contents}
 use Rattle.cell_columns.specs.Walks.{places_of}
-use Rattle.cell_columns.proofs.Found.{not_before}
 
 -- the entries hold what the whole holds
 abbrev Hold : CellEntries → CellEntries → Type 0

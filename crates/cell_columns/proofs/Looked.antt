@@ -1,12 +1,12 @@
 -- What is lent of a cell's content.
-use Rattle.std.proofs.Common.{◌≡◌, ℕ, ◌+◌, ◌-◌, ◌≤◌, ◌<◌, nat_le, nat_lt, Bool, true, false, cond, List, [], ◌∷◌, refl, sym, ap, subst, ◌∙◌, arith}
+use Rattle.std.proofs.Common.{◌≡◌, ℕ, ◌+◌, ◌≤◌, ◌<◌, true, false, cond, List, [], ◌∷◌, refl, ap, ◌∙◌, arith}
 use Rattle.std.specs.List.{list_all}
 use Rattle.std.proofs.lemmas.Bool.Decides.{nat_tests}
 use Rattle.calc_addr.specs.declared.cell.TheConstants.{LAST_ROW}
 use Rattle.calc_addr.specs.Places.{IsPlace, Place}
 use Rattle.calc_model.specs.declared.content.Content.{Content}
 use Rattle.calc_model.specs.declared.content.Content.TheVariants as content
-use Rattle.calc_model.specs.Books.{content_at, is_cell_entry, is_content, is_formula, is_place}
+use Rattle.calc_model.specs.Books.{is_cell_entry, is_content, is_formula, is_place}
 use Rattle.calc_model.specs.CellEdits.{CellEntries}
 use Rattle.calc_model.proofs.Areas.{both_true}
 use Rattle.formula_code.specs.Codes.{Codes, tree_at}
@@ -16,7 +16,7 @@ use Rattle.block_column.specs.declared.slot.SlotRef.{SlotRef}
 use Rattle.block_column.specs.declared.slot.SlotRef.TheVariants as lent
 use Rattle.block_column.specs.Kinds.{is_filled, lent_slot}
 use Rattle.cell_columns.specs.declared.columns.TheConstants.{COLUMNS}
-use Rattle.cell_columns.specs.Cells.{Column, cells_of, cells_only, column_at, column_number, content_of, slot_at}
+use Rattle.cell_columns.specs.Cells.{Column, cells_of, column_at, column_number, content_of, slot_at}
 use Rattle.cell_columns.specs.Emptied.{lies_in}
 use Rattle.cell_columns.specs.Looks.{AreEmptyBelow, IsCoded, IsLent}
 use Rattle.cell_columns.specs.Sheets.{AreSheets}

@@ -1,56 +1,46 @@
 -- The columns of a sheet go with a change of its rows: columns and codes stay those of a book, and the cells go.
-use Rattle.std.proofs.Common.{◌≡◌, ℕ, suc, zero, ◌+◌, ◌-◌, ◌≤◌, ◌<◌, ◌==◌, Bool, true, false, cond, List, [], ◌∷◌, ◌++◌, length, map, ◌⊎◌, inl, inr, refl, sym, ap, subst, ◌∙◌, arith}
-use Rattle.std.specs.Prelude.{◌/◌, slice_index_or, sum_by}
+use Rattle.std.proofs.Common.{◌≡◌, ℕ, suc, ◌+◌, ◌-◌, ◌<◌, ◌==◌, true, false, cond, List, [], ◌∷◌, length, refl, sym, ap, subst, ◌∙◌, arith}
+use Rattle.std.specs.Prelude.{slice_index_or, sum_by}
 use Rattle.std.proofs.lemmas.Bool.Decides.{Decides-eqb, nat_tests}
 use Rattle.std.proofs.lemmas.List.Sums.{sum_by-cons}
-use Rattle.calc_addr.specs.declared.cell.TheConstants.{LAST_COL, LAST_ROW}
+use Rattle.calc_addr.specs.declared.cell.TheConstants.{LAST_ROW}
 use Rattle.calc_addr.specs.Places.{IsPlace, Place}
-use Rattle.calc_addr.specs.Shifts.{place_after_deletion, place_after_insertion, row_after_deletion, row_after_insertion}
+use Rattle.calc_addr.specs.Shifts.{place_after_deletion, place_after_insertion}
 use Rattle.calc_model.specs.declared.change.Change.{Change}
 use Rattle.calc_model.specs.declared.change.Change.TheVariants.{Stays, Moves, Inserted, Deleted}
 use Rattle.calc_model.specs.declared.content.Content.{Content}
 use Rattle.calc_model.specs.declared.content.Content.TheVariants as content
-use Rattle.calc_model.specs.declared.limits.TheConstants.{MOST_CELLS}
-use Rattle.calc_model.specs.declared.tree.Tree.{Tree}
-use Rattle.calc_model.specs.Books.{content_at, is_content, is_held}
-use Rattle.calc_model.specs.CellEdits.{CellEntries, with_tree}
+use Rattle.calc_model.specs.Books.{is_content, is_held}
+use Rattle.calc_model.specs.CellEdits.{with_tree}
 use Rattle.calc_model.specs.Changes.{IsChange}
 use Rattle.calc_model.specs.Formed.{is_formed}
-use Rattle.calc_model.specs.Homes.{home_after_deletion, home_after_insertion}
 use Rattle.calc_model.proofs.FormedShifts.{changed_is_formed}
-use Rattle.formula_code.specs.Codes.{Codes, IsCodeAt, form_at, has_valid_references, tree_at}
-use Rattle.formula_code.specs.Relative.{absolute, relative}
-use Rattle.formula_code.proofs.Distances.{tree_back}
+use Rattle.formula_code.specs.Codes.{Codes, has_valid_references, tree_at}
 use Rattle.formula_code.proofs.Forms.{formed_is_valid}
-use Rattle.formula_code.proofs.FormsBack.{form_back}
 use Rattle.block_column.specs.declared.slot.Slot.{Slot}
 use Rattle.block_column.specs.declared.slot.Slot.TheVariants as slot
 use Rattle.block_column.specs.Kinds.{is_filled}
-use Rattle.block_column.specs.SlotRows.{SlotRows}
-use Rattle.formula_groups.specs.GroupRows.{GroupRows}
 use Rattle.cell_columns.specs.declared.columns.TheConstants.{COLUMNS}
-use Rattle.cell_columns.specs.Cells.{Column, cell_in, cells_below, cells_from, cells_of, cells_only, column_at, column_number, content_of, slot_at}
-use Rattle.cell_columns.specs.Lent.{AreColumns, codes_of, slots_of}
+use Rattle.cell_columns.specs.Cells.{Column, cell_in, cells_below, column_at, content_of, slot_at}
 use Rattle.cell_columns.specs.Sheets.{AreSheets}
-use Rattle.cell_columns.specs.Shifted.{AllKeepForms, AllStayIn, StaysIn, goes, rows_moved, sheet_of, shifted, tree_after}
-use Rattle.cell_columns.specs.Uses.{cell_of, codes_in, formula_of, summed, use_of}
-use Rattle.cell_columns.proofs.Counted.{counted}
-use Rattle.cell_columns.proofs.Edited.{IsFit, number_in}
-use Rattle.cell_columns.proofs.RowParts.{Fits, GoesWell, Meets, Rows, cells_there, fits_there, row_at, rows_from, shifted_append}
-use Rattle.cell_columns.proofs.RowsMoved.{Holds, after_deletion, after_insertion, before_deletion, before_insertion, cells_moved, fits_moved, front_long, kept_long, left_long, length_erased, length_inserted, sums_moved}
-use Rattle.cell_columns.proofs.Told.{holds, number_of, place_in, place_is, row_behind}
+use Rattle.cell_columns.specs.Shifted.{StaysIn, goes, shifted, tree_after}
+use Rattle.cell_columns.specs.Uses.{summed}
+use Rattle.cell_columns.proofs.Edited.{IsFit}
+use Rattle.cell_columns.proofs.RowParts.{Fits, GoesWell, Meets, Rows, cells_there, rows_from}
+use Rattle.cell_columns.proofs.RowsMoved.{Holds, cells_moved, fits_moved, sums_moved}
+use Rattle.cell_columns.proofs.Told.{number_of, place_in, row_behind}
 
 -- a cell that stays goes to a cell
 pub place_goes : (change : Change) → IsChange change → (q : Place) → IsPlace q → StaysIn change q → IsPlace (goes change q)
 place_goes (Inserted sheet place count) rows q is stays =
     elim (q.sheet == sheet) as (λ b. (q.sheet == sheet) ≡ b → IsPlace (cond b (place_after_insertion place count q) q)) [
       | true ↦ λ on. record {
-          sheet_in = is.sheet_in;
-          col_from = is.col_from;
-          col_to = is.col_to;
-          row_from = grind (arith, nat_tests, is.row_from);
-          row_to = stays ((Decides-eqb q.sheet sheet).0 on);
-        }
+        sheet_in = is.sheet_in;
+        col_from = is.col_from;
+        col_to = is.col_to;
+        row_from = grind (arith, nat_tests, is.row_from);
+        row_to = stays ((Decides-eqb q.sheet sheet).0 on);
+      }
       | false ↦ λ _. is
     ] refl
 place_goes (Deleted sheet place count) rows q is stays =

@@ -10,15 +10,12 @@ use Rattle.calc_model.specs.declared.content.Content.TheVariants.{Constant, Form
 use Rattle.calc_model.specs.declared.tree.Tree.TheVariants.{Bad}
 use Rattle.calc_model.specs.declared.fault.Fault.TheVariants.{Syntax}
 use Rattle.calc_model.specs.declared.value.Value.{Value}
-use Rattle.calc_model.specs.Books.{is_content}
 use Rattle.calc_model.specs.Formed.{is_formed}
 use Rattle.formula_code.specs.Codes.{Changes, Code, Codes, IsCodeAt, IsInterned, IsLive, code_at, form_at, slot_uses, used_again, uses_at, with_uses}
 use Rattle.formula_code.specs.Relative.{relative}
 use Rattle.formula_code.proofs.Totals.{uses_changed}
 use Rattle.block_column.specs.declared.slot.Slot.{Slot}
 use Rattle.block_column.specs.declared.slot.Slot.TheVariants as slot
-use Rattle.block_column.specs.Kinds.{is_filled}
-use Rattle.cell_columns.specs.Cells.{content_of}
 use Rattle.cell_columns.specs.Taken.{AreFreed, AreReturned, AreTaken, IsConstantSlot, IsSlotOf, IsTaken, KeepsForms}
 use Rattle.cell_columns.specs.Uses.{code_in, formula_of, use_of}
 use Rattle.cell_columns.proofs.Edited.{live}

@@ -9,6 +9,8 @@
 -- Walks: the rows of a column that hold something, and the cells that they are.
 -- ColumnRuns: the groups and the blocks of a column, as the cells alone have them.
 -- Shifted: where cells go with a change of rows.
+-- Gathered: the formulas that don't keep their codes.
+-- Reset: cells that are emptied, and cells that are set.
 pub mod Cells
 pub mod Uses
 pub mod Sheets
@@ -20,3 +22,5 @@ pub mod Looks
 pub mod Walks
 pub mod ColumnRuns
 pub mod Shifted
+pub mod Gathered
+pub mod Reset

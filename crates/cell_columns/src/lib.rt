@@ -2,6 +2,7 @@
 #![tactic(auto)]
 
 mod cells;
+mod changing;
 mod columns;
 mod counting;
 mod emptying;
@@ -10,6 +11,7 @@ mod looking;
 mod making;
 mod reading;
 mod release;
+mod resetting;
 mod shifting;
 mod slots;
 mod walking;

@@ -16,7 +16,7 @@ use calc_addr::{Cell, LAST_COL, LAST_ROW, NoMemory};
 use run_tables::piece_at;
 
 /// The cell of a column in a row.
-fn cell_in(number: usize, row: u32) -> Cell
+pub(crate) fn cell_in(number: usize, row: u32) -> Cell
     requires number { number < COLUMNS }
     requires from { 1 ≤ row }
     requires to { row ≤ LAST_ROW }

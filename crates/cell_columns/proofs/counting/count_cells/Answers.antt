@@ -1,9 +1,8 @@
-use Rattle.std.proofs.Common.{◌≡◌, ℕ, ◌+◌, ◌≤◌, ◌<◌, List, [], length, slice_index_or, sym, ap, subst, ◌∙◌, arith}
+use Rattle.std.proofs.Common.{◌≡◌, ℕ, ◌≤◌, ◌<◌, List, [], length, slice_index_or, sym, ap, subst, arith}
 use Rattle.block_column.specs.Blocks.{blocks_of}
 use Rattle.block_column.specs.SlotRows.{SlotRows}
 use Rattle.calc_model.specs.declared.limits.TheConstants.{MOST_CELLS}
-use Rattle.formula_code.specs.Codes.{Codes}
-use Rattle.cell_columns.specs.Cells.{Column, cells_of, column_at}
+use Rattle.cell_columns.specs.Cells.{Column, column_at}
 use Rattle.cell_columns.specs.Lent.{slots_of}
 use Rattle.cell_columns.specs.Uses.{cell_of, summed}
 use Rattle.cell_columns.specs.Walks.{filled_among}

@@ -1,4 +1,4 @@
-use Rattle.std.proofs.Common.{◌≡◌, None, ap, sym, ◌∙◌}
+use Rattle.std.proofs.Common.{None, ap, sym, ◌∙◌}
 use Rattle.cell_columns.specs.Shifted.{rows_moved}
 use Rattle.cell_columns.specs.Uses.{codes_in}
 use Rattle.cell_columns.proofs.ColumnsMoved.{codes_moved, nothing_moves}

@@ -1,15 +1,15 @@
-use Rattle.std.proofs.Common.{◌≡◌, ℕ, ◌+◌, ◌≤◌, ◌<◌, List, length, map, inr, sym, ap, subst, ◌∙◌, arith}
-use Rattle.std.specs.Prelude.{slice_index_or, slice_set}
+use Rattle.std.proofs.Common.{◌≡◌, ℕ, ◌<◌, List, length, inr, sym, ap, ◌∙◌, arith}
+use Rattle.std.specs.Prelude.{slice_index_or}
 use Rattle.block_column.specs.SlotRows.{SlotRows}
 use Rattle.calc_model.specs.declared.change.Change.{Change}
 use Rattle.formula_groups.specs.GroupRows.{GroupRows}
 use Rattle.cell_columns.specs.Cells.{column_at}
-use Rattle.cell_columns.specs.Lent.{codes_of, slots_of}
+use Rattle.cell_columns.specs.Lent.{slots_of}
 use Rattle.block_column.specs.declared.slot.Slot.TheVariants.{Empty}
 use Rattle.cell_columns.specs.Shifted.{rows_moved}
 use Rattle.cell_columns.specs.Uses.{codes_in}
 use Rattle.cell_columns.proofs.Clearing.{column_is, entries_are_codes}
-use Rattle.cell_columns.proofs.ColumnsMoved.{Moving, among, none_more, one_more}
+use Rattle.cell_columns.proofs.ColumnsMoved.{Moving, none_more, one_more}
 use Rattle.cell_columns.proofs.Maps.{length_map}
 use Rattle.cell_columns.proofs.shifting.move_columns.Goals as goal
 

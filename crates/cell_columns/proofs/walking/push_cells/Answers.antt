@@ -1,7 +1,6 @@
-use Rattle.std.proofs.Common.{◌≡◌, ℕ, ◌+◌, ◌<◌, List, [], ◌∷◌, ◌++◌, length, refl, sym, ap, subst, ◌∙◌, arith}
+use Rattle.std.proofs.Common.{◌≡◌, ℕ, ◌<◌, List, [], ◌∷◌, ◌++◌, length, refl, sym, ap, subst, ◌∙◌, arith}
 use Rattle.calc_addr.specs.Places.{Place}
 use Rattle.block_column.specs.SlotRows.{SlotRows}
-use Rattle.formula_code.specs.Codes.{Codes}
 use Rattle.cell_columns.specs.Cells.{Column, cells_of, column_at}
 use Rattle.cell_columns.specs.Lent.{slots_of}
 use Rattle.cell_columns.specs.Walks.{places_below, places_of, rows_in, within_rows}

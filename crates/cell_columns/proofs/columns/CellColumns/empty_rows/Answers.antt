@@ -1,4 +1,4 @@
-use Rattle.std.proofs.Common.{◌+◌, sym, subst, ap, arith}
+use Rattle.std.proofs.Common.{◌+◌, subst, arith}
 use Rattle.calc_model.specs.CellEdits.{CellEntries}
 use Rattle.cell_columns.specs.Cells.{column_at, column_number}
 use Rattle.cell_columns.specs.Lent.{slots_of}
