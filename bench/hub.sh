@@ -32,7 +32,7 @@ work="$(mktemp -d)"
 trap 'rm -rf "$work"' EXIT
 
 cp "$top/HANDLES" "$work/"
-for crate in byte_cuts calc_num calc_addr calc_model ears area_listeners run_unions listener_hub; do
+for crate in byte_cuts calc_num calc_addr calc_model ears area_listeners run_unions registration_slab listener_hub; do
     mkdir -p "$work/crates/$crate"
     for folder in src specs proofs; do
         if [ -d "$top/crates/$crate/$folder" ]; then cp -r "$top/crates/$crate/$folder" "$work/crates/$crate/"; fi

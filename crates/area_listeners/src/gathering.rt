@@ -5,10 +5,14 @@ ghost use Rattle.area_listeners.specs.Spots.{IsInUse, IsPlaced, corner, is_betwe
 
 use crate::spot::{CLASSES, Spot, height, meets};
 use calc_addr::{Area, LAST_COL, NoMemory};
+use smallvec::SmallVec;
 use std::collections::BTreeSet;
 
 /// Listeners by where they stand.
 pub(crate) type Spots = BTreeSet<Spot>;
+
+/// Ids of listeners, of which eight take no memory of their own.
+pub type Ids = SmallVec<usize, 8>;
 
 /// To look for the first listener of a column costs about as much as to go over so many.
 const COLUMN_COST: usize = 16;
@@ -66,7 +70,7 @@ fn corner(window: &Window, column: u16, row: u32) -> Spot
 }
 
 /// Appends the id of a listener if its area has a cell of an area.
-fn push_met(spot: &Spot, area: &Area, out: &mut Vec<usize>) -> Result<(), NoMemory>
+fn push_met(spot: &Spot, area: &Area, out: &mut Ids) -> Result<(), NoMemory>
     ensures { OnOk result ((i : ℕ) → has_id out.new.items i
         ≡ (has_id out.old.items i || is_met area.now i spot.now)) }
 {
@@ -84,7 +88,7 @@ fn push_columns(
     left: u16,
     right: u16,
     area: &Area,
-    out: &mut Vec<usize>,
+    out: &mut Ids,
 ) -> Result<(), NoMemory>
     requires columns { left ≤ right }
     requires rows { window.now.first ≤ window.now.end }
@@ -104,7 +108,7 @@ fn push_each_column(
     spots: &Spots,
     window: &Window,
     area: &Area,
-    out: &mut Vec<usize>,
+    out: &mut Ids,
 ) -> Result<(), NoMemory>
     requires placed { All IsPlaced spots.now.keys }
     requires window { window.now ≡ window_of window.now.class area.now }
@@ -121,12 +125,7 @@ fn push_each_column(
 }
 
 /// The same at one go.
-fn push_window(
-    spots: &Spots,
-    window: &Window,
-    area: &Area,
-    out: &mut Vec<usize>,
-) -> Result<(), NoMemory>
+fn push_window(spots: &Spots, window: &Window, area: &Area, out: &mut Ids) -> Result<(), NoMemory>
     requires placed { All IsPlaced spots.now.keys }
     requires window { window.now ≡ window_of window.now.class area.now }
     requires rows { window.now.first ≤ window.now.end }
@@ -140,7 +139,7 @@ fn push_window(
 
 /// Appends the ids of the listeners of a class whose areas have a cell of an area, some of them more than
 /// once.
-fn push_class(spots: &Spots, class: u32, area: &Area, out: &mut Vec<usize>) -> Result<(), NoMemory>
+fn push_class(spots: &Spots, class: u32, area: &Area, out: &mut Ids) -> Result<(), NoMemory>
     requires placed { All IsPlaced spots.now.keys }
     requires class { class < CLASSES }
     ensures { OnOk result ((i : ℕ) → has_id out.new.items i ≡ (has_id out.old.items i
@@ -161,7 +160,7 @@ fn push_if_used(
     used: &[bool],
     class: usize,
     area: &Area,
-    out: &mut Vec<usize>,
+    out: &mut Ids,
 ) -> Result<(), NoMemory>
     requires placed { All IsPlaced spots.now.keys }
     requires in_use { All (IsInUse used.now) spots.now.keys }
@@ -181,7 +180,7 @@ pub(crate) fn push_all(
     spots: &Spots,
     used: &[bool],
     area: &Area,
-    out: &mut Vec<usize>,
+    out: &mut Ids,
 ) -> Result<(), NoMemory>
     requires placed { All IsPlaced spots.now.keys }
     requires in_use { All (IsInUse used.now) spots.now.keys }

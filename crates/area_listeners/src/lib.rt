@@ -6,5 +6,6 @@ mod listener;
 mod listeners;
 mod spot;
 
+pub use gathering::Ids;
 pub use listener::Listener;
 pub use listeners::AreaListeners;

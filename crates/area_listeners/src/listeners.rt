@@ -1,10 +1,11 @@
 ghost use Rattle.std.specs.Prelude.{◌≡◌, ◌&&◌, ◌||◌, not, [], length, OnOk, OnErr, IfOk};
 ghost use Rattle.area_listeners.specs.Pairs.{AreMeeting, holds, is_same};
 
-use crate::gathering::{Spots, push_all};
+use crate::gathering::{Ids, Spots, push_all};
 use crate::listener::Listener;
 use crate::spot::{CLASSES, spot_of};
 use calc_addr::{Area, NoMemory};
+use smallvec::SmallVec;
 use std::alloc::Global;
 use std::collections::BTreeSet;
 use std::marker::Model;
@@ -78,10 +79,10 @@ impl AreaListeners {
     /// Where all areas are of one cell, it is linear in the ids, beside a search in each column of the area.
     /// Of areas of more rows those are looked at, too, that end above it by at most three times their rows,
     /// and of areas in several columns those beside it. No more pairs are ever looked at than there are.
-    pub fn meeting(&self, area: &Area) -> Result<Vec<usize>, NoMemory>
+    pub fn meeting(&self, area: &Area) -> Result<Ids, NoMemory>
         ensures { IfOk result (λ ids. AreMeeting self.now area.now ids.items) }
     {
-        let mut ids = Vec::new(self.alloc);
+        let mut ids = SmallVec::new(self.alloc);
         push_all(&self.spots, &self.used, area, &mut ids)?;
         ids.sort_unstable();
         ids.dedup();

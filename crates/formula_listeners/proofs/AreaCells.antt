@@ -8,7 +8,7 @@ use Rattle.calc_addr.specs.Places.{IsPlace, IsRectangle, Place, Rectangle, Rows,
 use Rattle.calc_model.specs.Books.{is_place}
 use Rattle.calc_model.proofs.Areas.{covered, inside}
 use Rattle.ears.proofs.Meetings.{both_ways}
-use Rattle.listener_hub.specs.Slab.{is_in}
+use Rattle.registration_slab.specs.Slab.{is_in}
 use Rattle.formula_listeners.proofs.InRuns.{is_inside, lies_in}
 
 -- the cell is one of the area, in a column before that one

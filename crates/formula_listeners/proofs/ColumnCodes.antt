@@ -12,7 +12,7 @@ use Rattle.formula_groups.specs.declared.group.Group.{Group}
 use Rattle.formula_groups.specs.GroupRows.{GroupRows}
 use Rattle.formula_groups.specs.Groups.{codes_of, groups_of}
 use Rattle.formula_groups.proofs.Kept.{codes-kept}
-use Rattle.listener_hub.specs.Slab.{is_in}
+use Rattle.registration_slab.specs.Slab.{is_in}
 use Rattle.formula_listeners.specs.Coded.{AreCoded, areas_by_code, code_in_row, code_of, coded_areas, columns_of, number_of}
 use Rattle.formula_listeners.proofs.GroupWalks.{first_code}
 use Rattle.formula_listeners.proofs.InRuns.{is_place_of, lies_in, under}

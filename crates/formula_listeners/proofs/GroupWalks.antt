@@ -19,7 +19,7 @@ use Rattle.formula_code.specs.Codes.{Codes}
 use Rattle.formula_groups.specs.declared.group.Group.{Group}
 use Rattle.formula_groups.specs.Groups.{group_run, codes_of, groups_of}
 use Rattle.formula_groups.proofs.Kept.{length-codes, runs-of-table}
-use Rattle.listener_hub.specs.Slab.{is_in}
+use Rattle.registration_slab.specs.Slab.{is_in}
 use Rattle.formula_listeners.specs.Coded.{areas_by_code, code_in_row, has_row, is_in_group}
 use Rattle.formula_listeners.proofs.InRuns.{lies_in, under}
 

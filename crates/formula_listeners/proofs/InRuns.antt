@@ -13,7 +13,7 @@ use Rattle.formula_code.specs.Homes.{rows_below}
 use Rattle.formula_code.proofs.RunReads.{ears_give_reads}
 use Rattle.ears.specs.RowEdits.{first_cell}
 use Rattle.ears.specs.RunAreas.{LieInSheet}
-use Rattle.listener_hub.specs.Slab.{areas_at, is_in, steps_of}
+use Rattle.registration_slab.specs.Slab.{areas_at, is_in, steps_of}
 use Rattle.formula_listeners.specs.Coded.{areas_by_code}
 use Rattle.formula_listeners.proofs.EarsLie.{ears_lie}
 

@@ -10,7 +10,7 @@ use Rattle.formula_code.specs.Names.{UsesName}
 use Rattle.formula_groups.specs.declared.group.Group.{Group}
 use Rattle.formula_groups.specs.GroupRows.{GroupRows}
 use Rattle.formula_groups.specs.Groups.{groups_of}
-use Rattle.listener_hub.specs.Slab.{is_in}
+use Rattle.registration_slab.specs.Slab.{is_in}
 use Rattle.formula_listeners.specs.Coded.{AreCoded, areas_by_code, code_in_row, code_of, coded_areas, columns_of, number_of}
 use Rattle.formula_listeners.specs.Renamed.{AgreeElsewhere}
 use Rattle.formula_listeners.proofs.ColumnCodes.{code_here, codes_are, table}

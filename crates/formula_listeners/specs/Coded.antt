@@ -11,7 +11,7 @@ use Rattle.calc_model.specs.Reads.{areas}
 use Rattle.formula_code.specs.Codes.{Codes, IsCodeAt, tree_at}
 use Rattle.formula_groups.specs.declared.group.Group.{Group}
 use Rattle.formula_groups.specs.GroupRows.{GroupRows}
-use Rattle.listener_hub.specs.Slab.{is_in}
+use Rattle.registration_slab.specs.Slab.{is_in}
 
 -- what each row of each column has, a code or none
 abbrev pub CodeColumns : Type 0

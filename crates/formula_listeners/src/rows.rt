@@ -5,7 +5,7 @@ ghost use Rattle.calc_addr.specs.Places.{Place};
 ghost use Rattle.formula_code.specs.Codes.{IsCodeAt};
 ghost use Rattle.formula_groups.specs.Groups.{codes_of, groups_of};
 ghost use Rattle.listener_hub.specs.Hubs.{areas_read};
-ghost use Rattle.listener_hub.specs.Slab.{is_in};
+ghost use Rattle.registration_slab.specs.Slab.{is_in};
 ghost use Rattle.formula_listeners.specs.Coded.{AreCoded, areas_by_code, code_in_row, coded_areas, columns_of, is_in_group, number_of};
 
 use crate::runs::listen_run;

@@ -2,6 +2,8 @@
 //! known.
 #![tactic(auto)]
 
+#[cfg(test)]
+mod asked;
 mod book;
 #[cfg(test)]
 mod known;

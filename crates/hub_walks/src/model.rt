@@ -10,7 +10,7 @@ pub type Place = (u8, u16, u32);
 /// An area by sheet, first and last column, first and last row.
 pub type Part = (u8, u16, u16, u32, u32);
 
-#[derive(Clone, Debug, Drop)]
+#[derive(Clone, Debug, Drop, PartialEq)]
 pub struct Formula {
     pub place: Place,
     pub reads: Vec<Part>,
@@ -28,6 +28,15 @@ pub fn remove(formulas: &mut Vec<Formula>, sheet: u8, col: u16, first: u32, last
     });
 }
 
+fn reads_one_of(formula: &Formula, area: &Part) -> bool {
+    for part in &formula.reads {
+        if meet(part, area) {
+            return true;
+        }
+    }
+    false
+}
+
 /// The cells that read a cell of the area, in order.
 pub fn readers(
     alloc: Global,
@@ -36,16 +45,73 @@ pub fn readers(
 ) -> Result<Vec<Place>, std::alloc::AllocError> {
     let mut places = Vec::new(alloc);
     for formula in formulas {
-        let mut reads = false;
-        for part in &formula.reads {
-            reads = reads || meet(part, area);
-        }
-        if reads {
+        if reads_one_of(formula, area) {
             places.push(formula.place)?;
         }
     }
     places.sort_unstable();
     Ok(places)
+}
+
+/// Appends the formulas that read a cell of the area and aren't known yet, and knows them from then on.
+fn push_readers(
+    formulas: &[Formula],
+    area: &Part,
+    known: &mut Vec<bool>,
+    places: &mut Vec<Place>,
+) -> Result<(), std::alloc::AllocError> {
+    for at in 0..formulas.len() {
+        if let Some(is_known) = known.get_mut(at) {
+            if !*is_known && reads_one_of(&formulas[at], area) {
+                *is_known = true;
+                places.push(formulas[at].place)?;
+            }
+        }
+    }
+    Ok(())
+}
+
+/// The cells that read a cell of the area, or one that reaches it so, in order.
+pub fn reaching(
+    alloc: Global,
+    formulas: &[Formula],
+    area: &Part,
+) -> Result<Vec<Place>, std::alloc::AllocError> {
+    let mut known = Vec::new(alloc);
+    for _ in 0..formulas.len() {
+        known.push(false)?;
+    }
+    let mut places: Vec<Place> = Vec::new(alloc);
+    push_readers(formulas, area, &mut known, &mut places)?;
+    for at in 0..formulas.len() {
+        if let Some(place) = places.get(at).copied() {
+            let (sheet, col, row) = place;
+            let cell = (sheet, col, col, row, row);
+            push_readers(formulas, &cell, &mut known, &mut places)?;
+        }
+    }
+    places.sort_unstable();
+    Ok(places)
+}
+
+/// The formulas of a column from one row to another, in order.
+pub fn formulas_in(
+    alloc: Global,
+    formulas: &[Formula],
+    sheet: u8,
+    col: u16,
+    first: u32,
+    last: u32,
+) -> Result<Vec<Formula>, std::alloc::AllocError> {
+    let mut found = Vec::new(alloc);
+    for formula in formulas {
+        let (s, c, row) = formula.place;
+        if s == sheet && c == col && first <= row && row <= last {
+            found.push(formula.clone()?)?;
+        }
+    }
+    found.sort_by_key(|formula: &Formula| formula.place)?;
+    Ok(found)
 }
 
 /// Where the rows of an area are when others are inserted, by the rule of a sheet: all rows stay all rows,

@@ -1,6 +1,7 @@
 //! A walk of random edits.
 ghost use Rattle.std.specs.Prelude.{◌≡◌, ◌≤◌, ◌<◌, false};
 
+use crate::asked::{is_parted, is_reached};
 use crate::book::Book;
 use crate::model::{Formula, Part, Place, edited, readers, remove};
 use calc_addr::{Area, Cell, NoMemory, Run};
@@ -31,7 +32,7 @@ impl Numbers {
 }
 
 /// The area, if its ends are in order and in the sheet.
-fn area_of(part: &Part) -> Option<Area> {
+pub fn area_of(part: &Part) -> Option<Area> {
     let (sheet, first_col, last_col, first_row, last_row) = *part;
     if sheet > 15
         || first_col == 0
@@ -52,7 +53,7 @@ fn area_of(part: &Part) -> Option<Area> {
     })
 }
 
-fn part_of(area: &Area) -> Part {
+pub fn part_of(area: &Area) -> Part {
     (
         area.sheet,
         area.first_col,
@@ -90,7 +91,7 @@ fn reads(numbers: &mut Numbers, row: u32) -> (Part, bool, bool)
 }
 
 /// The area that the row so many rows below the first one reads.
-fn part_below(read: &(Part, bool, bool), step: u32) -> Part {
+pub fn part_below(read: &(Part, bool, bool), step: u32) -> Part {
     let ((sheet, left, right, first, last), first_moves, last_moves) = *read;
     (
         sheet,
@@ -259,7 +260,9 @@ fn answers(
         let got = told(alloc, hub, &part)?;
         same = same && got.as_slice() == wanted.as_slice();
     }
-    Ok(same)
+    let part = question(numbers);
+    let run = some_run(numbers);
+    Ok(same && is_reached(alloc, hub, formulas, &part)? && is_parted(alloc, hub, formulas, run)?)
 }
 
 /// Whether the hub knows what each cell reads.

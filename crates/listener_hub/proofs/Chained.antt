@@ -10,12 +10,12 @@ use Rattle.calc_model.specs.Listeners.{ReachesArea, listed}
 use Rattle.ears.specs.Chains.{reads_above, reads_below}
 use Rattle.ears.proofs.GoingOn.{goes_above, goes_below}
 use Rattle.run_unions.proofs.Emitting.{or_right}
-use Rattle.listener_hub.specs.declared.registration.Registration.{Registration}
+use Rattle.registration_slab.specs.declared.registration.Registration.{Registration}
 use Rattle.listener_hub.specs.Hits.{is_hit}
 use Rattle.listener_hub.specs.Reaching.{IsStretch}
-use Rattle.listener_hub.specs.Slab.{AreApart, LiesInSheet, Registrations, areas_of, at, is_in}
+use Rattle.registration_slab.specs.Slab.{AreApart, LiesInSheet, Registrations, areas_of, at, is_in}
 use Rattle.listener_hub.proofs.Exact.{hit_has, stands_hit}
-use Rattle.listener_hub.proofs.Places.{read_at}
+use Rattle.registration_slab.proofs.Places.{read_at}
 
 -- an ear that passes has an area that passes
 by_ear : (test : Rectangle → Bool) (step : ℕ) (other : ReadArea → Bool) → ((e : ReadArea) → other e ≡ true → test (area_at e step) ≡ true) → (ears : List ReadArea) → list_any other ears ≡ true → list_any test (map (λ e. area_at e step) ears) ≡ true

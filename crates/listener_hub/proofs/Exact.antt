@@ -12,12 +12,12 @@ use Rattle.ears.proofs.Meetings.{both_ways, inside_hull, meets-covers}
 use Rattle.area_listeners.specs.declared.listener.Listener.{Listener}
 use Rattle.area_listeners.proofs.Told.{is_among}
 use Rattle.area_listeners.specs.Pairs.{AreMeeting, Pairs, has_id}
-use Rattle.listener_hub.specs.declared.registration.Registration.{Registration}
-use Rattle.listener_hub.specs.Cuts.{areas_in}
+use Rattle.registration_slab.specs.declared.registration.Registration.{Registration}
+use Rattle.registration_slab.specs.Cuts.{areas_in}
 use Rattle.listener_hub.specs.Hits.{any_hit, hits_at, is_hit}
-use Rattle.listener_hub.specs.Slab.{IsSlab, LiesInSheet, Registrations, areas_of, at, has_cell, hears, is_in, steps_of}
-use Rattle.listener_hub.proofs.Places.{Lacks, Stands, where_read}
-use Rattle.listener_hub.proofs.Standing.{same_itself}
+use Rattle.registration_slab.specs.Slab.{IsSlab, LiesInSheet, Registrations, areas_of, at, has_cell, hears, is_in, steps_of}
+use Rattle.registration_slab.proofs.Places.{Lacks, Stands, where_read}
+use Rattle.registration_slab.proofs.Standing.{same_itself}
 
 -- a test of the areas that a row reads
 any_area : (test : Rectangle → Bool) (other : ReadArea → Bool) (step : ℕ) (ears : List ReadArea) → AllByRecursion (λ e. test (area_at e step) ≡ other e) ears → list_any test (map (λ e. area_at e step) ears) ≡ list_any other ears

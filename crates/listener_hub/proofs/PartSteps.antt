@@ -17,13 +17,13 @@ use Rattle.calc_model.specs.Ears.{ReadArea, area_at}
 use Rattle.calc_model.specs.Listeners.{ArePartsOf, Gets, IsAbove, IsHeard, IsRowOf}
 use Rattle.ears.specs.RunAreas.{ear_below}
 use Rattle.area_listeners.specs.Pairs.{AreMeeting, Pairs, has_id}
-use Rattle.listener_hub.specs.declared.registration.Registration.{Registration}
+use Rattle.registration_slab.specs.declared.registration.Registration.{Registration}
 use Rattle.listener_hub.specs.Parting.{Adds, IsParted, IsParting, IsStep, Skips, first_row, has_row, next_part, part_run}
-use Rattle.listener_hub.specs.Slab.{AreApart, IsSlab, Registrations, area_of, areas_of, at, has_cell, is_in}
-use Rattle.listener_hub.proofs.Parts.{areas_below}
-use Rattle.listener_hub.proofs.Places.{Lacks, Stands, read_at, where_read}
+use Rattle.registration_slab.specs.Slab.{AreApart, IsSlab, Registrations, area_of, areas_of, at, has_cell, is_in}
+use Rattle.registration_slab.proofs.Parts.{areas_below}
+use Rattle.registration_slab.proofs.Places.{Lacks, Stands, read_at, where_read}
 use Rattle.listener_hub.proofs.Reached.{cells_in}
-use Rattle.listener_hub.proofs.Standing.{found}
+use Rattle.registration_slab.proofs.Standing.{found}
 
 -- a slice stays where a list gets more
 slice_kept : (xs ys : List ReadArea) (i j : ℕ) → i ≤ j → j ≤ length xs → slice_range (xs ++ ys) i j ≡ slice_range xs i j

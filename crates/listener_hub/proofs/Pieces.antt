@@ -16,7 +16,7 @@ use Rattle.ears.specs.declared.row_edit.RowEdit.{RowEdit}
 use Rattle.ears.specs.RowEdits.{GoTogether, IsRowEdit, RowsGoTogether, area_after, area_by, ear_after, first_cell, lowered, place_after, run_after}
 use Rattle.ears.specs.RunAreas.{LieInSheet}
 use Rattle.listener_hub.specs.Moves.{IsPieceMoved, StaysInSheet}
-use Rattle.listener_hub.specs.Slab.{Registrations, areas_at, areas_of, is_in, steps_of}
+use Rattle.registration_slab.specs.Slab.{Registrations, areas_at, areas_of, is_in, steps_of}
 use Rattle.listener_hub.proofs.Goings.{goes}
 use Rattle.listener_hub.proofs.Wholes.{areas_go}
 

@@ -10,14 +10,14 @@ use Rattle.ears.specs.declared.row_edit.Change.TheVariants.{Deletion}
 use Rattle.ears.specs.declared.row_edit.RowEdit.{RowEdit}
 use Rattle.ears.specs.RowEdits.{areas_after, place_after, row_by}
 use Rattle.area_listeners.specs.Pairs.{Pairs}
-use Rattle.listener_hub.specs.declared.registration.Registration.{Registration}
-use Rattle.listener_hub.specs.Cuts.{areas_in}
+use Rattle.registration_slab.specs.declared.registration.Registration.{Registration}
+use Rattle.registration_slab.specs.Cuts.{areas_in}
 use Rattle.listener_hub.specs.Moves.{IsMoved, IsPartMoved, KeepsAll, StaysAt, deletion}
-use Rattle.listener_hub.specs.Slab.{AreApart, IsSlab, LiesInSheet, Registrations, areas_of, at, has_cell, is_in}
-use Rattle.listener_hub.proofs.Changes.{put_reads, taken_reads}
+use Rattle.registration_slab.specs.Slab.{AreApart, IsSlab, LiesInSheet, Registrations, areas_of, at, has_cell, is_in}
+use Rattle.registration_slab.proofs.Changes.{put_reads, taken_reads}
 use Rattle.listener_hub.proofs.Goings.{goes, one_to_one}
-use Rattle.listener_hub.proofs.Parts.{part_is}
-use Rattle.listener_hub.proofs.Places.{Lacks, Stands, lacks_read, read_at, where_read}
+use Rattle.registration_slab.proofs.Parts.{part_is}
+use Rattle.registration_slab.proofs.Places.{Lacks, Stands, lacks_read, read_at, where_read}
 
 at_front : (rs : Registrations) (n i : ℕ) → i < n → at (take n rs) i ≡ at rs i
 at_front rs zero i h = absurd (omega arith)

@@ -9,11 +9,11 @@ use Rattle.calc_model.specs.Listeners.{ReadAreas}
 use Rattle.ears.specs.declared.row_edit.RowEdit.{RowEdit}
 use Rattle.ears.specs.RowEdits.{areas_after}
 use Rattle.ears.specs.RunAreas.{ear_below}
-use Rattle.listener_hub.specs.declared.registration.Registration.{Registration}
-use Rattle.listener_hub.specs.Cuts.{is_part}
+use Rattle.registration_slab.specs.declared.registration.Registration.{Registration}
+use Rattle.registration_slab.specs.Cuts.{is_part}
 use Rattle.listener_hub.specs.Moves.{IsPartMoved, IsPieceMoved}
 use Rattle.listener_hub.proofs.Goings.{one_to_one}
-use Rattle.listener_hub.proofs.Parts.{areas_below, part_is}
+use Rattle.registration_slab.proofs.Parts.{areas_below, part_is}
 
 part_first : (run : Rows) (first end : ℕ) (q : Place) → is_part run first end q ≡ true → first ≤ q.row
 part_first run first end q h = leb-true first q.row (and_parts (nat_le first q.row) (nat_lt q.row end) (and_parts ((q.sheet == run.sheet) && (q.col == run.col)) (nat_le first q.row && nat_lt q.row end) h).1).0

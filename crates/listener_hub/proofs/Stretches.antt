@@ -14,7 +14,7 @@ use Rattle.run_unions.specs.Unions as unions
 use Rattle.run_unions.proofs.Emitting.{or_right}
 use Rattle.listener_hub.specs.Hits.{is_hit}
 use Rattle.listener_hub.specs.Reaching.{GetStretch, IsStretch, stretch}
-use Rattle.listener_hub.specs.Slab.{is_in, steps_of}
+use Rattle.registration_slab.specs.Slab.{is_in, steps_of}
 
 or_left : (a b : Bool) → a ≡ true → (a || b) ≡ true
 or_left a b h = ap (λ x. x || b) h

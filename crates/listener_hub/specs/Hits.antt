@@ -4,9 +4,9 @@ use Rattle.std.specs.List.{list_any}
 use Rattle.calc_addr.specs.Places.{Place, Rectangle, Rows}
 use Rattle.calc_model.specs.Ears.{ReadArea, area_at}
 use Rattle.ears.specs.RunAreas.{meets}
-use Rattle.listener_hub.specs.declared.registration.Registration.{Registration}
-use Rattle.listener_hub.specs.Cuts.{areas_in}
-use Rattle.listener_hub.specs.Slab.{Registrations, at, is_in}
+use Rattle.registration_slab.specs.declared.registration.Registration.{Registration}
+use Rattle.registration_slab.specs.Cuts.{areas_in}
+use Rattle.registration_slab.specs.Slab.{Registrations, at, is_in}
 
 -- the cell is one of the run's, and reads a cell of the area by that ear
 abbrev pub is_hit : Rows → Rectangle → Place → ReadArea → Bool

@@ -2,7 +2,7 @@
 use Rattle.std.specs.Prelude.{Bool, not}
 use Rattle.calc_model.specs.Listeners.{ReadAreas}
 use Rattle.listener_hub.specs.Known.{Known}
-use Rattle.listener_hub.specs.Slab.{areas_of}
+use Rattle.registration_slab.specs.Slab.{areas_of}
 
 -- the areas that each formula cell reads; no other cell has a list
 abbrev pub areas_read : Known → ReadAreas

@@ -1,7 +1,7 @@
 -- A hub, as contracts see it.
 use Rattle.std.specs.Prelude.{Bool}
 use Rattle.area_listeners.specs.Pairs.{Pairs}
-use Rattle.listener_hub.specs.Slab.{Registrations}
+use Rattle.registration_slab.specs.Slab.{Registrations}
 
 pub record Known : Type 0 where
   pub registrations : Registrations

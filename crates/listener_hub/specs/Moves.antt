@@ -8,9 +8,9 @@ use Rattle.calc_model.specs.Listeners.{ReadAreas}
 use Rattle.ears.specs.declared.row_edit.Change.TheVariants.{Insertion, Deletion}
 use Rattle.ears.specs.declared.row_edit.RowEdit.{RowEdit}
 use Rattle.ears.specs.RowEdits.{areas_after, place_after}
-use Rattle.listener_hub.specs.declared.registration.Registration.{Registration}
-use Rattle.listener_hub.specs.Cuts.{areas_in, is_part}
-use Rattle.listener_hub.specs.Slab.{areas_at, is_in}
+use Rattle.registration_slab.specs.declared.registration.Registration.{Registration}
+use Rattle.registration_slab.specs.Cuts.{areas_in, is_part}
+use Rattle.registration_slab.specs.Slab.{areas_at, is_in}
 
 -- Each cell that isn't deleted reads, where it goes, what becomes of its areas, and no other cell reads anything.
 pub record IsMoved (edit : RowEdit) (old new : ReadAreas) : Type 0 where

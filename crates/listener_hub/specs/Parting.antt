@@ -7,8 +7,8 @@ use Rattle.calc_model.specs.Ears.{ReadArea}
 use Rattle.calc_model.specs.Listeners.{IsAbove, IsHeard}
 use Rattle.ears.specs.RunAreas.{ear_below}
 use Rattle.area_listeners.specs.Pairs.{has_id}
-use Rattle.listener_hub.specs.declared.registration.Registration.{Registration}
-use Rattle.listener_hub.specs.Slab.{Registrations, areas_of, at, has_cell, is_in}
+use Rattle.registration_slab.specs.declared.registration.Registration.{Registration}
+use Rattle.registration_slab.specs.Slab.{Registrations, areas_of, at, has_cell, is_in}
 
 abbrev pub first_row : Option Registration → ℕ
 first_row None = 0

@@ -8,7 +8,7 @@ use Rattle.calc_model.specs.Touched.{CellSet}
 use Rattle.ears.specs.Chains.{reads_above, reads_below}
 use Rattle.run_unions.specs.Unions as unions
 use Rattle.listener_hub.specs.Hits.{is_hit}
-use Rattle.listener_hub.specs.Slab.{is_in}
+use Rattle.registration_slab.specs.Slab.{is_in}
 
 -- A row of the cell's run reads a cell of the area, and each row from it to the cell reads the one before.
 pub record IsStretch (run : Rows) (ears : List ReadArea) (area : Rectangle) (q : Place) : Type 0 where

@@ -4,22 +4,19 @@ ghost use Rattle.calc_addr.specs.Places.{Place, single};
 ghost use Rattle.calc_model.specs.Listeners.{AreReaders, Gets};
 ghost use Rattle.ears.specs.RowEdits.{IsRowEdit};
 ghost use Rattle.ears.specs.RunAreas.{LieInSheet};
-ghost use Rattle.listener_hub.specs.Changes.{IsPut, IsSlabOf};
+ghost use Rattle.registration_slab.specs.Changes.{IsPut, IsSlabOf};
 ghost use Rattle.listener_hub.specs.Hubs.{areas_read};
 ghost use Rattle.listener_hub.specs.Moves.{IsMoved, KeepsAll, deletion, insertion};
-ghost use Rattle.listener_hub.specs.Slab.{areas_at, areas_of, is_in, steps_of};
+ghost use Rattle.registration_slab.specs.Slab.{areas_at, areas_of, is_in, steps_of};
 
-use crate::cuts::{remove_run, split_at};
-use crate::joining::put_joined;
 use crate::parting::push_parts;
 use crate::reaching::push_reached;
 use crate::readers::{push_readers, push_reads};
-use crate::registration::registration_of;
 use crate::row_edits::move_rows;
-use crate::slab::{Slab, empty};
 use calc_addr::{Area, Cell, NoMemory, Run};
 use calc_model::{Dependents, Ear, Part};
 use ears::{Change, RowEdit};
+use registration_slab::{Slab, empty, put_joined, registration_of, remove_run, split_at};
 use std::alloc::Global;
 use std::marker::Model;
 
@@ -39,7 +36,7 @@ impl Model for Hub {
 
     ghost Value = { Known };
 
-    ghost use Rattle.listener_hub.specs.Changes.{IsSlabOf};
+    ghost use Rattle.registration_slab.specs.Changes.{IsSlabOf};
 
     ghost view = { λ h. record { registrations = h.slab.registrations.items; listeners = h.slab.ears; spent = h.spent } };
 

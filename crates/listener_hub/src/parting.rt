@@ -3,16 +3,14 @@ ghost use Rattle.std.specs.List.{All};
 ghost use Rattle.std.specs.List.Sorted.{IsNonDecreasingBy};
 ghost use Rattle.ears.specs.RunAreas.{LieInSheet, ear_below};
 ghost use Rattle.calc_model.specs.Listeners.{ArePartsOf, Gets};
-ghost use Rattle.listener_hub.specs.Changes.{IsSlabOf};
+ghost use Rattle.registration_slab.specs.Changes.{IsSlabOf};
 ghost use Rattle.listener_hub.specs.Parting.{IsParted, IsStep, first_row, part_run};
-ghost use Rattle.listener_hub.specs.Slab.{AreApart, LiesInSheet, areas_of, at, steps_of};
+ghost use Rattle.registration_slab.specs.Slab.{AreApart, LiesInSheet, areas_of, at, steps_of};
 
-use crate::listening::{area_of, steps_before, steps_of};
-use crate::registration::{Registration, registration_at};
-use crate::slab::Slab;
 use calc_addr::{NoMemory, Run};
 use calc_model::{Ear, Part};
 use ears::ear_below;
+use registration_slab::{Registration, Slab, area_of, registration_at, steps_before, steps_of};
 
 /// Appends the ears of the rows from the one on that lies so many rows below a run's first one.
 fn push_ears_below(ears: &[Ear], step: u32, steps: u32, out: &mut Vec<Ear>) -> Result<(), NoMemory>

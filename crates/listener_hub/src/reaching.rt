@@ -5,17 +5,15 @@ ghost use Rattle.calc_model.specs.Ears.{ReadArea};
 ghost use Rattle.calc_model.specs.Listeners.{AreReached, Gets};
 ghost use Rattle.ears.specs.Chains.{reads_above, reads_below};
 ghost use Rattle.ears.specs.RunAreas.{LieInSheet};
-ghost use Rattle.listener_hub.specs.Changes.{IsSlabOf};
+ghost use Rattle.registration_slab.specs.Changes.{IsSlabOf};
 ghost use Rattle.listener_hub.specs.Hits.{any_hit, hits_at, is_hit};
 ghost use Rattle.listener_hub.specs.Reaching.{GetReached, GetStretch, stretch};
-ghost use Rattle.listener_hub.specs.Slab.{AreApart, LiesInSheet, areas_of, at, steps_of};
+ghost use Rattle.registration_slab.specs.Slab.{AreApart, LiesInSheet, areas_of, at, steps_of};
 
-use crate::listening::steps_of;
-use crate::registration::{Registration, registration_at};
-use crate::slab::Slab;
 use calc_addr::{Area, NoMemory, Run};
 use calc_model::Ear;
 use ears::{Steps, reads_above, reads_below, steps_meeting};
+use registration_slab::{Registration, Slab, registration_at, steps_of};
 
 /// Whether each row of a run but the first one reads the cell above it.
 fn goes_down(run: &Run, ears: &[Ear]) -> bool

@@ -5,20 +5,19 @@ ghost use Rattle.calc_model.specs.Ears.{area_at};
 ghost use Rattle.calc_model.specs.Listeners.{AreReaders, Gets, listed, reads_one_of};
 ghost use Rattle.ears.specs.RunAreas.{LieInSheet};
 ghost use Rattle.run_unions.specs.Unions.{is_in};
-ghost use Rattle.listener_hub.specs.Changes.{IsSlabOf};
+ghost use Rattle.registration_slab.specs.Changes.{IsSlabOf};
 ghost use Rattle.listener_hub.specs.Hits.{any_hit, hits_at, is_hit, registered_areas};
-ghost use Rattle.listener_hub.specs.Slab.{LiesInSheet, areas_of, at, has_cell, steps_of};
+ghost use Rattle.registration_slab.specs.Slab.{LiesInSheet, areas_of, at, has_cell, steps_of};
 
-use crate::listening::{area_of, steps_of};
-use crate::registration::Registration;
-use crate::slab::Slab;
 use calc_addr::{Area, Cell, NoMemory, Run};
 use calc_model::Ear;
 use ears::{area_at, steps_meeting};
-use run_unions::push_union;
+use registration_slab::{Registration, Slab, area_of, place_of, steps_of};
+use run_unions::{Entry, Runs, push_union};
+use smallvec::SmallVec;
 
 /// Appends the rows of a run that read a cell of the area by one of its references.
-fn push_hit(run: &Run, ear: &Ear, area: &Area, hits: &mut Vec<Run>) -> Result<(), NoMemory>
+fn push_hit(run: &Run, ear: &Ear, area: &Area, hits: &mut Runs) -> Result<(), NoMemory>
     requires { LieInSheet (steps_of run.now) ear.now }
     ensures { OnOk result ((q : Place) → list_any (is_in q) hits.new.items
         ≡ (list_any (is_in q) hits.old.items || is_hit run.now area.now q ear.now)) }
@@ -27,19 +26,19 @@ fn push_hit(run: &Run, ear: &Ear, area: &Area, hits: &mut Vec<Run>) -> Result<()
     if let Some(steps) = steps_meeting(ear, below, area) {
         let last = steps.last.min(below);
         if steps.first <= last {
-            hits.push(Run {
+            hits.push(Entry::of(Run {
                 sheet: run.sheet,
                 col: run.col,
                 first: run.first + steps.first,
                 last: run.first + last,
-            })?;
+            }))?;
         }
     }
     Ok(())
 }
 
 /// Appends the rows of a run that read a cell of the area.
-fn push_hits(run: &Run, ears: &[Ear], area: &Area, hits: &mut Vec<Run>) -> Result<(), NoMemory>
+fn push_hits(run: &Run, ears: &[Ear], area: &Area, hits: &mut Runs) -> Result<(), NoMemory>
     requires { All (LieInSheet (steps_of run.now)) ears.now }
     ensures { OnOk result ((q : Place) → list_any (is_in q) hits.new.items
         ≡ (list_any (is_in q) hits.old.items || list_any (is_hit run.now area.now q) ears.now)) }
@@ -55,7 +54,7 @@ fn push_hits_at(
     registrations: &[Option<Registration>],
     place: usize,
     area: &Area,
-    hits: &mut Vec<Run>,
+    hits: &mut Runs,
 ) -> Result<(), NoMemory>
     requires { (i : ℕ) → LiesInSheet (at registrations.now i) }
     ensures { OnOk result ((q : Place) → list_any (is_in q) hits.new.items
@@ -72,7 +71,7 @@ fn push_all_hits(
     registrations: &[Option<Registration>],
     places: &[usize],
     area: &Area,
-    hits: &mut Vec<Run>,
+    hits: &mut Runs,
 ) -> Result<(), NoMemory>
     requires { (i : ℕ) → LiesInSheet (at registrations.now i) }
     ensures { OnOk result ((q : Place) → list_any (is_in q) hits.new.items
@@ -85,14 +84,14 @@ fn push_all_hits(
 }
 
 /// The rows that read a cell of the area, each maybe more than once.
-pub(crate) fn hits(slab: &Slab, area: &Area) -> Result<Vec<Run>, NoMemory>
+pub(crate) fn hits(slab: &Slab, area: &Area) -> Result<Runs, NoMemory>
     requires { IsSlabOf slab.now }
     ensures { IfOk result (λ v. (q : Place) → list_any (is_in q) v.items
         ≡ reads_one_of (areas_of slab.now.registrations.items) area.now q) }
 {
     let _ = &area.sheet;
     let places = slab.ears.meeting(area)?;
-    let mut hits = Vec::new(slab.alloc);
+    let mut hits = SmallVec::new(slab.alloc);
     push_all_hits(&slab.registrations, &places, area, &mut hits)?;
     Ok(hits)
 }
@@ -120,37 +119,6 @@ fn push_areas(ears: &[Ear], step: u32, steps: u32, out: &mut Vec<Area>) -> Resul
         out.push_reserved(area_at(ear, step));
     }
     Ok(())
-}
-
-fn has_cell(registrations: &[Option<Registration>], place: usize, cell: &Cell) -> bool
-    ensures { result ≡ has_cell (at registrations.now place) cell.now }
-{
-    match registrations.get(place) {
-        Some(Some(registration)) => {
-            let run = &registration.run;
-            (cell.sheet == run.sheet && cell.col == run.col)
-                && (run.first <= cell.row && cell.row <= run.last)
-        }
-        _ => false,
-    }
-}
-
-/// The first of the places whose registration has the cell.
-pub(crate) fn place_of(
-    registrations: &[Option<Registration>],
-    places: &[usize],
-    cell: &Cell,
-) -> Option<usize>
-    ensures found { IfSome result (λ i. has_cell (at registrations.now i) cell.now ≡ true) }
-    ensures none { IfNone result
-        (list_any (λ i. has_cell (at registrations.now i) cell.now) places.now ≡ false) }
-{
-    for place in places {
-        if has_cell(registrations, *place, cell) {
-            return Some(*place);
-        }
-    }
-    None
 }
 
 /// Appends what the cell reads by the registration at a place that has it.

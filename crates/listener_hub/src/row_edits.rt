@@ -4,19 +4,18 @@ ghost use Rattle.calc_addr.specs.Places.{IsRows, Place};
 ghost use Rattle.calc_model.specs.Listeners.{ReadAreas};
 ghost use Rattle.ears.specs.RowEdits.{GoTogether, IsRowEdit, RowsGoTogether, ear_after, place_after};
 ghost use Rattle.ears.specs.RunAreas.{LieInSheet};
-ghost use Rattle.listener_hub.specs.Changes.{IsSlabOf};
-ghost use Rattle.listener_hub.specs.Cuts.{areas_in, is_part};
+ghost use Rattle.registration_slab.specs.Changes.{IsSlabOf};
+ghost use Rattle.registration_slab.specs.Cuts.{areas_in, is_part};
 ghost use Rattle.listener_hub.specs.Moves.{IsMoved, IsPartMoved, IsPieceMoved, KeepsAll, StaysAt, StaysInSheet};
-ghost use Rattle.listener_hub.specs.Slab.{AreApart, LiesInSheet, areas_of, at, is_in, steps_of};
+ghost use Rattle.registration_slab.specs.Slab.{AreApart, LiesInSheet, areas_of, at, is_in, steps_of};
 
-use crate::cuts::ears_below;
-use crate::joining::put_joined;
-use crate::listening::{steps_before, steps_of};
-use crate::registration::{Registration, registration_at, registration_of};
-use crate::slab::{Slab, empty};
 use calc_addr::{LAST_ROW, NoMemory, Run};
 use calc_model::Ear;
 use ears::{RowEdit, ear_after, run_after, whole_rows, whole_steps};
+use registration_slab::{
+    Registration, Slab, ears_below, empty, put_joined, registration_at, registration_of,
+    steps_before, steps_of,
+};
 use std::alloc::Global;
 
 /// How far down the rows of a run, and the areas that they read, go as those of the first one do.

@@ -7,6 +7,7 @@ ghost use Rattle.run_unions.specs.Emitted.{IsEmitted};
 ghost use Rattle.run_unions.specs.Keys.{MOST, first_key, last_key, place_at};
 ghost use Rattle.run_unions.specs.Unions.{AreUnion};
 
+use crate::entry::{Entry, Runs};
 use crate::keys::{cell_at, first_key, last_key};
 use calc_addr::{Cell, NoMemory, Run};
 
@@ -25,7 +26,7 @@ fn push_cells(first: u64, end: u64, out: &mut Vec<Cell>) -> Result<(), NoMemory>
 }
 
 /// Appends the cells of a run from a number on, and gives the number behind all that were appended.
-fn push_run(run: &Run, next: u64, out: &mut Vec<Cell>) -> Result<u64, NoMemory>
+fn push_run(run: &Entry, next: u64, out: &mut Vec<Cell>) -> Result<u64, NoMemory>
     requires { next ≤ MOST }
     ensures next { IfOk result (λ n. n ≡ max next (last_key run.now + 1)) }
     ensures within { IfOk result (λ n. n ≤ MOST) }
@@ -35,8 +36,9 @@ fn push_run(run: &Run, next: u64, out: &mut Vec<Cell>) -> Result<u64, NoMemory>
         (last_key run.now + 1 - max (first_key run.now) next))) }
     ensures err { OnErr result (take (length out.old.items) out.new.items ≡ out.old.items) }
 {
-    let first = first_key(run).max(next);
-    let end = last_key(run) + 1;
+    let rows = run.run();
+    let first = first_key(rows).max(next);
+    let end = last_key(rows) + 1;
     if first < end {
         push_cells(first, end, out)?;
     }
@@ -44,7 +46,7 @@ fn push_run(run: &Run, next: u64, out: &mut Vec<Cell>) -> Result<u64, NoMemory>
 }
 
 /// Appends the cells of runs that are sorted by their first cells, each once.
-fn push_runs(runs: &[Run], out: &mut Vec<Cell>) -> Result<(), NoMemory>
+fn push_runs(runs: &[Entry], out: &mut Vec<Cell>) -> Result<(), NoMemory>
     requires { IsNonDecreasingBy first_key runs.now }
     ensures ok { OnOk result (IsEmitted out.old.items out.new.items runs.now) }
     ensures err { OnErr result (take (length out.old.items) out.new.items ≡ out.old.items) }
@@ -58,11 +60,11 @@ fn push_runs(runs: &[Run], out: &mut Vec<Cell>) -> Result<(), NoMemory>
 
 /// Appends the cells of runs, each once, in the order of cells. Linear in the cells, with a sort of the
 /// runs.
-pub fn push_union(mut runs: Vec<Run>, out: &mut Vec<Cell>) -> Result<(), NoMemory>
+pub fn push_union(mut runs: Runs, out: &mut Vec<Cell>) -> Result<(), NoMemory>
     ensures ok { OnOk result (Gets out.old.items out.new.items (AreUnion runs.items)) }
     ensures err { OnErr result (out.new.items ≡ out.old.items) }
 {
-    runs.sort_unstable_by_key(|run| first_key(run));
+    runs.sort_unstable_by_key(|run| first_key(run.run()));
     let before = out.len();
     match push_runs(&runs, out) {
         Ok(()) => Ok(()),

@@ -5,7 +5,7 @@ use Rattle.std.proofs.lemmas.Result.{on_ok_weaker}
 use Rattle.calc_addr.specs.Places.{IsRows, Rows}
 use Rattle.formula_groups.specs.declared.group.Group.{Group}
 use Rattle.listener_hub.specs.Hubs.{areas_read}
-use Rattle.listener_hub.specs.Slab.{is_in}
+use Rattle.registration_slab.specs.Slab.{is_in}
 use Rattle.formula_listeners.proofs.ColumnCodes.{row_reads}
 use Rattle.formula_listeners.proofs.InRuns.{free_stays}
 use Rattle.formula_listeners.proofs.rows.listen_row.Goals as goal

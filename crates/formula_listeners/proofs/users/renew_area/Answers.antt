@@ -1,7 +1,7 @@
 use Rattle.std.proofs.Common.{◌≤◌, ◌+◌, cond, sym, ap, subst, ◌∙◌, arith}
 use Rattle.calc_addr.specs.Places.{Rectangle}
 use Rattle.listener_hub.specs.Hubs.{areas_read}
-use Rattle.listener_hub.specs.Slab.{is_in}
+use Rattle.registration_slab.specs.Slab.{is_in}
 use Rattle.formula_listeners.specs.Coded.{coded_areas, columns_of}
 use Rattle.formula_listeners.proofs.AreaCells.{before_end, column, in_area, not_before, one_more}
 use Rattle.formula_listeners.proofs.users.renew_area.Invariants.{AreRenewed}

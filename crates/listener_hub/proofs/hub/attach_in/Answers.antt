@@ -1,7 +1,7 @@
 use Rattle.std.proofs.Common.{List, Some, cond, ap, ◌∙◌}
 use Rattle.calc_addr.specs.Places.{Rows}
 use Rattle.calc_model.specs.Ears.{ReadArea}
-use Rattle.listener_hub.specs.Slab.{areas_at, areas_of, is_in}
+use Rattle.registration_slab.specs.Slab.{areas_at, areas_of, is_in}
 use Rattle.listener_hub.proofs.hub.attach_in.Goals as goal
 
 pub returns-clause-areas : goal.returns-clause-areas

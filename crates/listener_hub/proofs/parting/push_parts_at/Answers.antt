@@ -1,7 +1,7 @@
 use Rattle.std.proofs.Common.{List, get_or, take, sym, subst, ℕ}
 use Rattle.std.proofs.lemmas.List.{take_more}
 use Rattle.listener_hub.specs.Parting.{IsParting, first_row}
-use Rattle.listener_hub.specs.Slab.{at}
+use Rattle.registration_slab.specs.Slab.{at}
 use Rattle.listener_hub.proofs.PartSteps.{kept_front, no_parts, on_err, sorted_before, step}
 use Rattle.listener_hub.proofs.parting.push_parts_at.Goals as goal
 

@@ -1,7 +1,7 @@
 use Rattle.std.proofs.Common.{take}
 use Rattle.listener_hub.specs.Hits.{any_hit}
 use Rattle.listener_hub.specs.Reaching.{GetReached}
-use Rattle.listener_hub.specs.Slab.{areas_of}
+use Rattle.registration_slab.specs.Slab.{areas_of}
 use Rattle.listener_hub.proofs.reaching.push_all_stretches.Given as goal
 
 abbrev pub invariant-loop-place : goal.invariant-loop-place

@@ -5,7 +5,7 @@ use Rattle.calc_model.specs.Ears.{ReadArea}
 use Rattle.calc_model.specs.Listeners.{ReachesArea}
 use Rattle.listener_hub.specs.Hits.{hits_at, is_hit}
 use Rattle.listener_hub.specs.Reaching.{GetStretch, IsStretch}
-use Rattle.listener_hub.specs.Slab.{LiesInSheet, areas_of, at}
+use Rattle.registration_slab.specs.Slab.{LiesInSheet, areas_of, at}
 use Rattle.listener_hub.proofs.Chained.{chained}
 use Rattle.listener_hub.proofs.Getting.{get_by}
 use Rattle.listener_hub.proofs.reaching.push_stretches_at.Goals as goal

@@ -4,8 +4,8 @@ use Rattle.std.proofs.lemmas.Result.{on_ok_weaker}
 use Rattle.calc_addr.specs.Places.{Place, Rectangle}
 use Rattle.area_listeners.specs.Pairs.{AreMeeting}
 use Rattle.listener_hub.specs.Hits.{registered_areas}
-use Rattle.listener_hub.specs.Slab.{Registrations, area_of, at, has_cell}
-use Rattle.listener_hub.proofs.Standing.{reads_nowhere, reads_there, run_of}
+use Rattle.registration_slab.specs.Slab.{Registrations, area_of, at, has_cell}
+use Rattle.listener_hub.proofs.Reading.{reads_nowhere, reads_there, run_of}
 use Rattle.listener_hub.proofs.readers.push_reads.Goals as goal
 
 pub returns-in-Some-clause-ok : goal.returns-in-Some-clause-ok
@@ -24,6 +24,6 @@ returns-clause-ok c =
     reads_nowhere c.args.slab.now.registrations.items c.args.slab.now.ears c.args.slab.now.homes c.requires q c.in_ok-places.places.items
     (subst (λ (p : Place). AreMeeting c.args.slab.now.homes (area_of (run_of p)) c.in_ok-places.places.items) c.cell.view_is
     (subst (λ (a : Rectangle). AreMeeting c.args.slab.now.homes a c.in_ok-places.places.items) c.area_of.ensures c.in_ok-places.ensures))
-    (ap (λ (xs : List ℕ). list_any (λ i. has_cell (at c.args.slab.now.registrations.items i) q) xs) (sym c.deref-2.ensures.value)
+    (ap (λ (xs : List ℕ). list_any (λ i. has_cell (at c.args.slab.now.registrations.items i) q) xs) (sym c.deref-2.ensures)
     ∙ ap (λ (rs : Registrations). list_any (λ i. has_cell (at rs i) q) c.deref-2.result.now) (sym c.deref.ensures.value) ∙ c.in-None.ensures.none) in
     sym (ap (λ (xs : List Rectangle). c.args.out.now.items ++ xs) nothing ∙ append-nil c.args.out.now.items)

@@ -1,6 +1,6 @@
 use Rattle.std.proofs.Common.{sym, subst, ℕ}
 use Rattle.listener_hub.specs.Moves.{StaysAt}
-use Rattle.listener_hub.specs.Slab.{Registrations, at}
+use Rattle.registration_slab.specs.Slab.{Registrations, at}
 use Rattle.listener_hub.proofs.Prefixes.{stay_at}
 use Rattle.listener_hub.proofs.row_edits.move_rows.Goals as goal
 

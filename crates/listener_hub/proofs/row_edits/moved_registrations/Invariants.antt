@@ -1,7 +1,7 @@
 use Rattle.std.proofs.Common.{take}
-use Rattle.listener_hub.specs.Changes.{IsSlabOf}
+use Rattle.registration_slab.specs.Changes.{IsSlabOf}
 use Rattle.listener_hub.specs.Moves.{IsMoved}
-use Rattle.listener_hub.specs.Slab.{areas_of}
+use Rattle.registration_slab.specs.Slab.{areas_of}
 use Rattle.listener_hub.proofs.row_edits.moved_registrations.Given as goal
 
 abbrev pub invariant-loop-place : goal.invariant-loop-place

@@ -4,8 +4,8 @@ use Rattle.calc_addr.specs.Places.{Rows}
 use Rattle.calc_model.specs.Ears.{ReadArea}
 use Rattle.ears.specs.RunAreas.{LieInSheet, ear_below}
 use Rattle.listener_hub.specs.Moves.{IsPieceMoved}
-use Rattle.listener_hub.specs.Slab.{areas_of, steps_of}
-use Rattle.listener_hub.proofs.Parts.{part_lies}
+use Rattle.registration_slab.specs.Slab.{areas_of, steps_of}
+use Rattle.registration_slab.proofs.Parts.{part_lies}
 use Rattle.listener_hub.proofs.Rests.{part_moved}
 use Rattle.listener_hub.proofs.row_edits.put_first_of.Goals as goal
 

@@ -1,5 +1,5 @@
 use Rattle.std.proofs.Common.{◌+◌, arith}
-use Rattle.listener_hub.specs.Slab.{areas_of}
+use Rattle.registration_slab.specs.Slab.{areas_of}
 use Rattle.listener_hub.proofs.Rests.{parts_join}
 use Rattle.listener_hub.proofs.row_edits.put_moved.Goals as goal
 

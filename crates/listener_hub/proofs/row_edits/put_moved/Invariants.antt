@@ -1,7 +1,7 @@
 use Rattle.std.proofs.Common.{◌≤◌, ◌+◌, ◌-◌}
-use Rattle.listener_hub.specs.Changes.{IsSlabOf}
+use Rattle.registration_slab.specs.Changes.{IsSlabOf}
 use Rattle.listener_hub.specs.Moves.{IsPartMoved}
-use Rattle.listener_hub.specs.Slab.{areas_of}
+use Rattle.registration_slab.specs.Slab.{areas_of}
 use Rattle.listener_hub.proofs.row_edits.put_moved.Given as goal
 
 abbrev pub invariant-loop-first : goal.invariant-loop-first

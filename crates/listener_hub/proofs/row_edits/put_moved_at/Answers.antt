@@ -1,6 +1,6 @@
 use Rattle.std.proofs.Common.{sym, ap, ◌∙◌}
 use Rattle.std.specs.Option.{option_copied}
-use Rattle.listener_hub.specs.Slab.{areas_of}
+use Rattle.registration_slab.specs.Slab.{areas_of}
 use Rattle.listener_hub.proofs.Prefixes.{moved_none, moved_some, nothing_there}
 use Rattle.listener_hub.proofs.row_edits.put_moved_at.Goals as goal
 

@@ -3,7 +3,7 @@ use Rattle.std.specs.List.{All}
 use Rattle.calc_addr.specs.Places.{Rows}
 use Rattle.calc_model.specs.Ears.{ReadArea}
 use Rattle.ears.specs.RunAreas.{LieInSheet}
-use Rattle.listener_hub.specs.Slab.{areas_at, areas_of, is_in, steps_of}
+use Rattle.registration_slab.specs.Slab.{areas_at, areas_of, is_in, steps_of}
 use Rattle.listener_hub.proofs.Pieces.{cell_comes, last_stays, lie_after, piece_moved, steps_stay}
 use Rattle.listener_hub.proofs.row_edits.put_whole.Goals as goal
 

@@ -4,7 +4,7 @@ use Rattle.std.proofs.lemmas.List.{take_all}
 use Rattle.calc_model.specs.Ears.{ReadArea}
 use Rattle.std.specs.Prelude.{List}
 use Rattle.ears.specs.RowEdits.{GoTogether}
-use Rattle.listener_hub.specs.Slab.{steps_of}
+use Rattle.registration_slab.specs.Slab.{steps_of}
 use Rattle.listener_hub.proofs.Wholes.{whole_more}
 use Rattle.listener_hub.proofs.row_edits.whole_of.Goals as goal
 

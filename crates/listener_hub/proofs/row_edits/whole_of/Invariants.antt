@@ -1,7 +1,7 @@
 use Rattle.std.proofs.Common.{◌≤◌, take}
 use Rattle.std.specs.List.{All}
 use Rattle.ears.specs.RowEdits.{GoTogether, RowsGoTogether}
-use Rattle.listener_hub.specs.Slab.{steps_of}
+use Rattle.registration_slab.specs.Slab.{steps_of}
 use Rattle.listener_hub.proofs.row_edits.whole_of.Given as goal
 
 abbrev pub invariant-loop-ear : goal.invariant-loop-ear

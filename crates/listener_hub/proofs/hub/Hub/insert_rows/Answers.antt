@@ -1,7 +1,7 @@
 use Rattle.std.proofs.Common.{sym, subst}
 use Rattle.listener_hub.specs.Known.{Known}
 use Rattle.listener_hub.specs.Moves.{KeepsAll, insertion}
-use Rattle.listener_hub.specs.Slab.{areas_of}
+use Rattle.registration_slab.specs.Slab.{areas_of}
 use Rattle.listener_hub.proofs.hub.Hub.insert_rows.Goals as goal
 
 pub move_rows-done-requires-clause-stays : goal.move_rows-done-requires-clause-stays
