@@ -34,7 +34,8 @@ awk 'BEGIN {
 }' >"$work/numbers"
 
 cp "$top/HANDLES" "$work/"
-for crate in byte_cuts calc_num calc_addr calc_model formula_reader book_parts calc_book; do
+for crate in byte_cuts calc_num calc_addr calc_model formula_reader calc_names run_tables paged_list formula_groups \
+    block_column formula_code cell_columns book_parts calc_book; do
     mkdir -p "$work/crates/$crate"
     cp -r "$top/crates/$crate/"{src,specs,proofs} "$work/crates/$crate/"
     grep "^$crate:" "$top/crates.txt" >>"$work/crates.txt"
