@@ -98,7 +98,7 @@ module _ (codes : Codes) (columns : List Column) (sheets : AreSheets codes colum
   blocks_down =
       ap (λ ks. map a_block (runs_of same_kind ks)) (sym (downwards (λ q. Some (kind_in (cells_only (cells_of codes columns)) q)) kind_key
       (λ k h. ap (λ content. Some (kind_of_content content)) (holds codes columns (cell_of_row (1 + k)) (placed k h) ∙ ap (content_of codes (cell_of_row (1 + k))) (there k))
-        ∙ ap Some (kind_kept codes (cell_of_row (1 + k)) (slice_index_or (column_at columns (column_of sheet col)) k slot.Empty)))))
+      ∙ ap Some (kind_kept codes (cell_of_row (1 + k)) (slice_index_or (column_at columns (column_of sheet col)) k slot.Empty)))))
 
   form_kept : (q : Place) (x : Slot) → ((id : ℕ) → x ≡ slot.Formula id → IsCodeAt codes id q) → form_of q (content_of codes q x) ≡ option_map (form_at codes) (code_in x)
   form_kept q slot.Empty coded = refl
@@ -114,7 +114,7 @@ module _ (codes : Codes) (columns : List Column) (sheets : AreSheets codes colum
   forms_down : map (form_in (cells_only (cells_of codes columns))) (cells_down sheet col) ≡ map (λ x. option_map (form_at codes) (code_in x)) (column_at columns (column_of sheet col))
   forms_down = downwards (form_in (cells_only (cells_of codes columns))) (λ x. option_map (form_at codes) (code_in x))
       (λ k h. ap (form_of (cell_of_row (1 + k))) (holds codes columns (cell_of_row (1 + k)) (placed k h) ∙ ap (content_of codes (cell_of_row (1 + k))) (there k))
-        ∙ form_kept (cell_of_row (1 + k)) (slice_index_or (column_at columns (column_of sheet col)) k slot.Empty) (coded_here k h))
+      ∙ form_kept (cell_of_row (1 + k)) (slice_index_or (column_at columns (column_of sheet col)) k slot.Empty) (coded_here k h))
 
   live_rows : (xs : Column) → ((k : ℕ) → k < length xs → (id : ℕ) → slice_index_or xs k slot.Empty ≡ slot.Formula id → IsLive codes id) → AllGood (IsLive codes) (codes_in xs)
   live_rows [] each = tt

@@ -24,9 +24,9 @@ are_groups c =
     let among : n < length groups = omega (arith, c.number_of.ensures.among, inv.sheets.all_columns, length_map codes_in columns, ap length inv.grouped, length_map (λ (g : GroupRows). g.entries) groups) in
     c.groups.ensures
     ∙ ap groups_of (
-      seen_at (λ (g : GroupRows). g.entries) groups n c.index.result.now [] c.index.ensures among
-      ∙ ap (λ rows. slice_index_or rows n []) inv.grouped
-      ∙ codes_at columns n
+    seen_at (λ (g : GroupRows). g.entries) groups n c.index.result.now [] c.index.ensures among
+    ∙ ap (λ rows. slice_index_or rows n []) inv.grouped
+    ∙ codes_at columns n
     )
     ∙ ap (λ k. groups_of (codes_in (column_at columns k))) c.number_of.ensures.number
 
@@ -34,8 +34,8 @@ pub returns-clause-groups : goal.returns-clause-groups
 returns-clause-groups c =
     let Right : CellEntries → Type 0 = λ cells. map (rows_of_group c.args.sheet c.args.col) c.groups.result.now ≡ map (rows_of_run c.args.sheet c.args.col) (groups_in (cells_only cells) c.args.sheet c.args.col) in
     subst Right c.self.view_is (
-      ap (map (rows_of_group c.args.sheet c.args.col)) (are_groups c)
-      ∙ groups_down c.self.inside.table (slots_of c.self.inside.columns.items) c.self.invariant.sheets c.args.sheet c.args.col c.requires c.are_apart.ensures.apart
+    ap (map (rows_of_group c.args.sheet c.args.col)) (are_groups c)
+    ∙ groups_down c.self.inside.table (slots_of c.self.inside.columns.items) c.self.invariant.sheets c.args.sheet c.args.col c.requires c.are_apart.ensures.apart
     )
 
 pub returns-clause-rows : goal.returns-clause-rows
