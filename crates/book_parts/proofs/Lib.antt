@@ -3,13 +3,15 @@ pub mod EmptyRows
 -- looking a key up
 pub mod Lookups
 -- books of cells without names
-mod Contents
+pub mod Contents
 -- whether there is room for a content
 mod Lengths
 -- one item after the other
 mod Steps
 pub mod Inserted
 pub mod Copied
+-- what an edit leaves in the cells that it doesn't touch
+pub mod LeftCells
 pub mod Shifted
 -- cells that are pushed out of the sheet
 mod PushedOut

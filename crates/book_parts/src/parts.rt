@@ -10,6 +10,8 @@ ghost use Rattle.calc_model.specs.Tokens.{is_name};
 ghost use Rattle.calc_names.specs.NameFaults.{IsOneTooMany};
 ghost use Rattle.calc_model.specs.GeneratedBook.{generated_book};
 ghost use Rattle.calc_model.specs.RowEdits.{cells_after_deletion, cells_after_insertion, is_pushed_out};
+ghost use Rattle.formula_code.specs.Coded.{AreCoded, AreFormulasOf};
+ghost use Rattle.formula_groups.specs.GroupRows.{columns_of};
 ghost use Rattle.cell_columns.specs.ColumnRuns.{AllLie, IsSheetColumn, blocks_in, groups_in, rows_of_block, rows_of_group, rows_of_run};
 ghost use Rattle.cell_columns.specs.Looks.{IsLent};
 ghost use Rattle.cell_columns.specs.Walks.{places_of};
@@ -22,7 +24,7 @@ use block_column::{Block, SlotRef};
 use calc_addr::{Area, Cell, LAST_ROW, LAST_SHEET, NoMemory};
 use calc_model::{Content, Looked, MOST_CELLS, MOST_GENERATED_ROWS, NameTable, Text};
 use calc_names::{NameFault, Names};
-use cell_columns::{CellColumns, Coded};
+use cell_columns::{CellColumns, Coded, CodedGroups};
 use formula_groups::Group;
 use std::alloc::Global;
 use std::marker::Model;
@@ -438,6 +440,14 @@ impl BookParts {
         ensures rows { AllLie (map (rows_of_block sheet col) result.now) }
     {
         self.cells.blocks(sheet, col)
+    }
+
+    /// The codes of all formulas. It takes no time.
+    pub fn coded(&self) -> CodedGroups<'_>
+        ensures coded { AreCoded result.codes.now (columns_of result.groups.now) }
+        ensures formulas { AreFormulasOf result.codes.now (columns_of result.groups.now) self.now }
+    {
+        self.cells.coded()
     }
 
     /// How many cells hold a formula. Linear in the blocks.

@@ -48,6 +48,7 @@ pub mod Looked
 pub mod Listed
 pub mod RunRows
 pub mod FormRuns
+pub mod CodedCells
 pub mod Downwards
 pub mod RowParts
 pub mod RowsMoved

@@ -1,6 +1,8 @@
-//! A column's groups and blocks, lent.
+//! A column's groups and blocks, lent, and the codes of all columns.
 ghost use Rattle.std.specs.Prelude.{◌≡◌, ◌<◌, ◌+◌, ◌-◌, ◌*◌, map};
 ghost use Rattle.calc_addr.specs.declared.cell.TheConstants.{LAST_COL};
+ghost use Rattle.formula_code.specs.Coded.{AreCoded, AreFormulasOf};
+ghost use Rattle.formula_groups.specs.GroupRows.{columns_of};
 ghost use Rattle.cell_columns.specs.Cells.{cells_only};
 ghost use Rattle.cell_columns.specs.ColumnRuns.{AllLie, IsSheetColumn, blocks_in, groups_in, rows_of_block, rows_of_group, rows_of_run};
 
@@ -8,8 +10,16 @@ use crate::cells::column_number;
 use crate::columns::{COLUMNS, CellColumns};
 use block_column::Block;
 use calc_addr::Cell;
-use formula_code::forms_are_trees;
-use formula_groups::Group;
+use formula_code::{CodeTable, forms_are_trees};
+use formula_groups::{Group, GroupColumn};
+
+/// The groups of all columns, where column c of sheet s stands at 1024 * s + c - 1, and the table that has the
+/// codes of their formulas.
+#[derive(Clone, Copy)]
+pub struct CodedGroups<'a> {
+    pub codes: &'a CodeTable,
+    pub groups: &'a [GroupColumn],
+}
 
 /// The number of a column among all.
 fn number_of(sheet: u8, col: u16) -> usize
@@ -41,5 +51,17 @@ impl CellColumns {
         ensures rows { AllLie (map (rows_of_block sheet col) result.now) }
     {
         self.columns[number_of(sheet, col)].blocks()
+    }
+
+    /// The codes of all formulas. It takes no time.
+    pub fn coded(&self) -> CodedGroups<'_>
+        ensures coded { AreCoded result.codes.now (columns_of result.groups.now) }
+        ensures formulas { AreFormulasOf result.codes.now (columns_of result.groups.now)
+            (cells_only self.now) }
+    {
+        CodedGroups {
+            codes: &self.table,
+            groups: &self.groups,
+        }
     }
 }

@@ -17,4 +17,5 @@ mod slots;
 mod walking;
 
 pub use columns::{COLUMNS, CellColumns};
+pub use lending::CodedGroups;
 pub use looking::Coded;

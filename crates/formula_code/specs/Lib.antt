@@ -15,3 +15,4 @@ pub mod Homes
 pub mod Names
 pub mod Ears
 pub mod Staying
+pub mod Coded

@@ -9,9 +9,13 @@ use Rattle.calc_model.specs.Books.{Book, NameEntries, content_at, entry_named, i
 use Rattle.calc_model.specs.Listeners.{ReadAreas}
 use Rattle.calc_model.specs.Reads.{areas, content_areas}
 use Rattle.formula_code.specs.Codes.{Codes, tree_at}
-use Rattle.formula_listeners.specs.Coded.{AreFormulasOf, CodeColumns, areas_by_code, code_of, coded_areas, formula_in}
+use Rattle.formula_code.specs.Coded.{AreFormulasOf, CodeColumns, areas_by_code, code_of, coded_areas, formula_in}
 use Rattle.formula_listeners.specs.Held.{HoldsOutside, HoldsReads, areas_in}
 use Rattle.formula_listeners.proofs.AreaCells.{place_in}
+
+pub whole : {X : Type 0} (b : Bool) (u v : Option X) → (b ≡ true → u ≡ v) → cond b u (cond b None v) ≡ v
+whole true u v same = same refl
+whole false u v same = refl
 
 module _ (codes : Codes) (names : NameEntries) (q : Place) where
   abbrev content_reads : Content → Option (List Rectangle)
@@ -41,7 +45,3 @@ module _ (codes : Codes) (names : NameEntries) (columns : CodeColumns) (book : B
       is q
       ∙ ap (λ o. cond (covers area q) (coded_areas codes names columns q) o) (outside q)
       ∙ whole (covers area q) (coded_areas codes names columns q) (areas_in book q) (λ h. book_reads q (place_in area q valid h))
-    where
-      whole : {X : Type 0} (b : Bool) (u v : Option X) → (b ≡ true → u ≡ v) → cond b u (cond b None v) ≡ v
-      whole true u v same = same refl
-      whole false u v same = refl

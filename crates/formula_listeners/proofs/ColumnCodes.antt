@@ -9,11 +9,11 @@ use Rattle.calc_addr.specs.Places.{IsPlace, IsRows, Place, Rectangle, Rows}
 use Rattle.calc_model.specs.Books.{NameEntries}
 use Rattle.formula_code.specs.Codes.{Codes, IsCodeAt, IsLive}
 use Rattle.formula_groups.specs.declared.group.Group.{Group}
-use Rattle.formula_groups.specs.GroupRows.{GroupRows}
+use Rattle.formula_groups.specs.GroupRows.{GroupRows, columns_of}
 use Rattle.formula_groups.specs.Groups.{codes_of, groups_of}
 use Rattle.formula_groups.proofs.Kept.{codes-kept}
 use Rattle.registration_slab.specs.Slab.{is_in}
-use Rattle.formula_listeners.specs.Coded.{AreCoded, areas_by_code, code_in_row, code_of, coded_areas, columns_of, number_of}
+use Rattle.formula_code.specs.Coded.{AreCoded, areas_by_code, code_in_row, code_of, coded_areas, number_of}
 use Rattle.formula_listeners.proofs.GroupWalks.{first_code}
 use Rattle.formula_listeners.proofs.InRuns.{is_place_of, lies_in, under}
 

@@ -20,7 +20,8 @@ use Rattle.formula_groups.specs.declared.group.Group.{Group}
 use Rattle.formula_groups.specs.Groups.{group_run, codes_of, groups_of}
 use Rattle.formula_groups.proofs.Kept.{length-codes, runs-of-table}
 use Rattle.registration_slab.specs.Slab.{is_in}
-use Rattle.formula_listeners.specs.Coded.{areas_by_code, code_in_row, has_row, is_in_group}
+use Rattle.formula_code.specs.Coded.{areas_by_code, code_in_row}
+use Rattle.formula_listeners.specs.GroupCells.{has_row, is_in_group}
 use Rattle.formula_listeners.proofs.InRuns.{lies_in, under}
 
 abbrev has : Run ℕ → ℕ → Bool

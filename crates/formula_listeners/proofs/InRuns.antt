@@ -14,7 +14,7 @@ use Rattle.formula_code.proofs.RunReads.{ears_give_reads}
 use Rattle.ears.specs.RowEdits.{first_cell}
 use Rattle.ears.specs.RunAreas.{LieInSheet}
 use Rattle.registration_slab.specs.Slab.{areas_at, is_in, steps_of}
-use Rattle.formula_listeners.specs.Coded.{areas_by_code}
+use Rattle.formula_code.specs.Coded.{areas_by_code}
 use Rattle.formula_listeners.proofs.EarsLie.{ears_lie}
 
 pub record LiesIn (run : Rows) (q : Place) : Type 0 where

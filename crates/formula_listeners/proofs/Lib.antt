@@ -6,6 +6,7 @@
 -- NameUsers, RenewedRows: formulas that don't use a name read what they did. WholeBooks: a hub of all formulas of a book.
 pub mod EarsLie
 pub mod InRuns
+pub mod SingleReads
 pub mod GroupWalks
 pub mod AreaCells
 pub mod ColumnCodes

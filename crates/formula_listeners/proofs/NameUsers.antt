@@ -25,7 +25,7 @@ use Rattle.formula_code.proofs.Forms.{nodes_of_tree}
 use Rattle.formula_code.proofs.RunReads.{ears_give_reads}
 use Rattle.formula_groups.specs.declared.group.Group.{Group}
 use Rattle.formula_groups.specs.Groups.{codes_of, group_run, groups_of}
-use Rattle.formula_listeners.specs.Coded.{areas_by_code, code_in_row}
+use Rattle.formula_code.specs.Coded.{areas_by_code, code_in_row}
 use Rattle.formula_listeners.specs.Renamed.{AgreeElsewhere}
 use Rattle.formula_listeners.proofs.GroupWalks.{row_code}
 

@@ -8,10 +8,10 @@ use Rattle.calc_model.specs.Listeners.{ReadAreas}
 use Rattle.formula_code.specs.Codes.{Codes, form_at}
 use Rattle.formula_code.specs.Names.{UsesName}
 use Rattle.formula_groups.specs.declared.group.Group.{Group}
-use Rattle.formula_groups.specs.GroupRows.{GroupRows}
+use Rattle.formula_groups.specs.GroupRows.{GroupRows, columns_of}
 use Rattle.formula_groups.specs.Groups.{groups_of}
 use Rattle.registration_slab.specs.Slab.{is_in}
-use Rattle.formula_listeners.specs.Coded.{AreCoded, areas_by_code, code_in_row, code_of, coded_areas, columns_of, number_of}
+use Rattle.formula_code.specs.Coded.{AreCoded, areas_by_code, code_in_row, code_of, coded_areas, number_of}
 use Rattle.formula_listeners.specs.Renamed.{AgreeElsewhere}
 use Rattle.formula_listeners.proofs.ColumnCodes.{code_here, codes_are, table}
 use Rattle.formula_listeners.proofs.InRuns.{is_place_of, lies_in}

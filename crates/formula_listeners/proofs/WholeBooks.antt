@@ -13,7 +13,7 @@ use Rattle.calc_model.proofs.Areas.{both_true}
 use Rattle.calc_model.proofs.Places.{same_places}
 use Rattle.calc_model.proofs.RowsKept.{rectangle_from}
 use Rattle.formula_code.specs.Codes.{Codes}
-use Rattle.formula_listeners.specs.Coded.{AreFormulasOf, CodeColumns, coded_areas, formula_in}
+use Rattle.formula_code.specs.Coded.{AreFormulasOf, CodeColumns, coded_areas, formula_in}
 use Rattle.formula_listeners.specs.Held.{HoldsReads, areas_in}
 use Rattle.formula_listeners.proofs.BookReads.{book_reads}
 

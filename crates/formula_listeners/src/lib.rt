@@ -5,12 +5,14 @@ mod areas;
 mod laws;
 mod rows;
 mod runs;
+mod single;
 mod users;
 mod whole;
 
-pub use areas::{listen_area, listen_cell, silence};
+pub use areas::{listen_area, silence};
 pub use laws::{
     names_agree_elsewhere, reads_go_with_cells, reads_go_with_names, reads_go_with_rows,
 };
+pub use single::listen_cell;
 pub use users::listen_users;
 pub use whole::listen_all;

@@ -6,7 +6,9 @@ ghost use Rattle.formula_code.specs.Codes.{IsCodeAt};
 ghost use Rattle.formula_groups.specs.Groups.{codes_of, groups_of};
 ghost use Rattle.listener_hub.specs.Hubs.{areas_read};
 ghost use Rattle.registration_slab.specs.Slab.{is_in};
-ghost use Rattle.formula_listeners.specs.Coded.{AreCoded, areas_by_code, code_in_row, coded_areas, columns_of, is_in_group, number_of};
+ghost use Rattle.formula_code.specs.Coded.{AreCoded, areas_by_code, code_in_row, coded_areas, number_of};
+ghost use Rattle.formula_groups.specs.GroupRows.{columns_of};
+ghost use Rattle.formula_listeners.specs.GroupCells.{is_in_group};
 
 use crate::runs::listen_run;
 use calc_addr::{LAST_COL, NoMemory, Run};
@@ -110,30 +112,4 @@ pub(crate) fn listen_rows<N: NameTable>(
     let _ = &rows.first;
     let column = &groups[number_of(&rows)];
     listen_groups(alloc, hub, codes, names, rows, column.groups())
-}
-
-/// Registers the formula of a run of one row, if it has one. It takes the logarithm of the groups of the
-/// run's column.
-pub(crate) fn listen_row<N: NameTable>(
-    alloc: Global,
-    hub: &mut Hub,
-    codes: &CodeTable,
-    groups: &[GroupColumn],
-    names: &N,
-    row: Run,
-) -> Result<(), NoMemory>
-    requires ready { hub.old.spent ≡ false }
-    requires one { row.first ≡ row.last }
-    requires coded { AreCoded codes.now (columns_of groups.now) }
-    requires absent { (q : Place) → is_in row q ≡ true → areas_read hub.old q ≡ None }
-    ensures areas { OnOk result ((q : Place) → areas_read hub.new q ≡ (if is_in row q
-        then coded_areas codes.now (N.entries names.now) (columns_of groups.now) q
-        else areas_read hub.old q)) }
-    ensures ready { OnOk result (hub.new.spent ≡ false) }
-    ensures spent { OnErr result (hub.new.spent ≡ true) }
-{
-    match groups[number_of(&row)].group_at(row.first) {
-        Some(group) => listen_run(alloc, hub, codes, names, row, group.code),
-        None => Ok(()),
-    }
 }

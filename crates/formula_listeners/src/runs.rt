@@ -5,7 +5,7 @@ ghost use Rattle.calc_addr.specs.Places.{IsRectangle, Place};
 ghost use Rattle.formula_code.specs.Codes.{IsCodeAt};
 ghost use Rattle.listener_hub.specs.Hubs.{areas_read};
 ghost use Rattle.registration_slab.specs.Slab.{is_in};
-ghost use Rattle.formula_listeners.specs.Coded.{areas_by_code};
+ghost use Rattle.formula_code.specs.Coded.{areas_by_code};
 
 use calc_addr::{Area, Cell, NoMemory, Run};
 use calc_model::{CodeId, Ear, NameTable};

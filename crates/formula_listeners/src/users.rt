@@ -7,7 +7,8 @@ ghost use Rattle.formula_code.specs.Codes.{IsLive, form_at};
 ghost use Rattle.formula_code.specs.Names.{UsesName};
 ghost use Rattle.listener_hub.specs.Hubs.{areas_read};
 ghost use Rattle.registration_slab.specs.Slab.{is_in};
-ghost use Rattle.formula_listeners.specs.Coded.{AreCoded, AreFormulasOf, coded_areas, columns_of};
+ghost use Rattle.formula_code.specs.Coded.{AreCoded, AreFormulasOf, coded_areas};
+ghost use Rattle.formula_groups.specs.GroupRows.{columns_of};
 ghost use Rattle.formula_listeners.specs.Held.{HoldsReads};
 ghost use Rattle.formula_listeners.specs.Renamed.{AgreeElsewhere};
 

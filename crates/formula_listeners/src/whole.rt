@@ -3,7 +3,8 @@ ghost use Rattle.std.specs.Prelude.{◌≡◌, false, None, IfOk, OnOk, if◌the
 ghost use Rattle.calc_addr.specs.Places.{Place};
 ghost use Rattle.calc_model.specs.Books.{Book, IsBook, is_place};
 ghost use Rattle.listener_hub.specs.Hubs.{areas_read};
-ghost use Rattle.formula_listeners.specs.Coded.{AreCoded, AreFormulasOf, coded_areas, columns_of};
+ghost use Rattle.formula_code.specs.Coded.{AreCoded, AreFormulasOf, coded_areas};
+ghost use Rattle.formula_groups.specs.GroupRows.{columns_of};
 ghost use Rattle.formula_listeners.specs.Held.{HoldsReads};
 
 use crate::areas::listen_area;

@@ -22,7 +22,7 @@ use Rattle.calc_model.proofs.EntriesFound.{find-insert_entry, find-remove_entry}
 use Rattle.calc_model.proofs.NamedReads.{deleted_reads, exact_names, inserted_reads, named_reads, unnamed_reads}
 use Rattle.calc_model.proofs.ShiftedReads.{deletion_goes, insertion_goes, neither}
 use Rattle.workbook.specs.Workbook.{IsFresh, Made, State, WasBook}
-use Rattle.workbook.proofs.Contents.{clear_leaves, copy_leaves, fill_leaves, set_leaves}
+use Rattle.book_parts.proofs.LeftCells.{clear_leaves, copy_leaves, fill_leaves, set_leaves}
 use Rattle.workbook.proofs.Fresh.{Leaves, still_fresh}
 use Rattle.workbook.proofs.Leavings.{cells_leave, name_leaves, others_shifted, rows_leave}
 use Rattle.workbook.proofs.RowChanges.{above_rows, deletion_leaves, formula_place, insertion_leaves, origin_deleted, origin_inserted}

@@ -4,8 +4,6 @@ pub mod NamesIn
 pub mod Sets
 -- the formulas that reach a touched cell
 pub mod Reaching
--- what an edit leaves in the cells that it doesn't touch
-pub mod Contents
 -- the book after an edit
 pub mod Steps
 -- which formulas are stale after an edit

@@ -1,5 +1,5 @@
--- A workbook: its book, the results of the last recalculation, the cells that edits touched since then, and whether it
--- is dead. A formula that reaches a touched cell is stale.
+-- A workbook: its book, whether the hub of what its formulas read is spent, the results of the last recalculation, the
+-- cells that edits touched since then, and whether it is dead. A formula that reaches a touched cell is stale.
 use Rattle.std.specs.Prelude.{◌≡◌, ◌&&◌, Bool, true, false, ⊤, List, Ok, Err}
 use Rattle.calc_addr.specs.Places.{Place}
 use Rattle.calc_model.specs.declared.value.Value.{Value}
@@ -18,9 +18,14 @@ use Rattle.workbook.specs.Touched.{Parts, is_touched}
 
 pub record State : Type 0 where
   pub book : Book
+  pub spent : Bool
   pub results : List (Place × Value)
   pub touched : Parts
   pub dead : Bool
+
+-- the same with a hub that isn't spent
+abbrev pub mended : State → State
+mended state = record state { spent = false }
 
 -- the formulas that are stale
 unfoldable pub stale_of : State → CellSet
@@ -38,12 +43,13 @@ Stales before edit after = (q : Place) → stale_of after q ≡ stale_after befo
 abbrev pub IsFresh : State → Type 0
 IsFresh state = (q : Place) → stale_of state q ≡ false → values_of state q ≡ val state.book q
 
--- the edit was made, and the results of the last recalculation stay
+-- the edit was made, the hub isn't spent, and the results of the last recalculation stay
 pub record Made (before : State) (edit : Edit) (after : State) : Type 0 where
   pub step : step before.book edit ≡ Ok after.book
   pub book : IsBook after.book
   pub stale : Stales before edit after
   pub alive : after.dead ≡ before.dead
+  pub ready : after.spent ≡ false
   pub results : after.results ≡ before.results
 
 -- rows come and go in what is a book
@@ -57,8 +63,9 @@ pub record IsRefused (before : State) (edit : Edit) (cause : EditCause) (after :
   pub step : step before.book edit ≡ Err cause
   pub kept : after ≡ before
 
--- memory was refused: the workbook is as before where a cell was to be set or an area cleared, and else it is dead
+-- memory was refused: where a cell was to be set or an area cleared, all but the hub is as before; else the workbook is
+-- dead
 abbrev pub AfterNoMemory : State → Edit → State → Type 0
-AfterNoMemory before (Set cell content) after = after ≡ before
-AfterNoMemory before (Clear area) after = after ≡ before
+AfterNoMemory before (Set cell content) after = mended after ≡ mended before
+AfterNoMemory before (Clear area) after = mended after ≡ mended before
 AfterNoMemory before _ after = after.dead ≡ true

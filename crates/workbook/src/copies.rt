@@ -15,6 +15,7 @@ use std::alloc::Global;
 
 impl Workbook {
     pub(crate) fn copy(&mut self, alloc: Global, area: Area, to: Cell) -> Result<(), EditFault>
+        requires { self.old.spent ≡ false }
         ensures done { OnOk result (Made self.old (Edit.Copy area to) self.new) }
         ensures refused { (cause : EditCause) → IsErrOf result (EditFault.Refused cause) →
             IsRefused self.old (Edit.Copy area to) cause self.new }
@@ -27,7 +28,7 @@ impl Workbook {
         if !lies_inside(area, to) {
             return Err(EditFault::Refused(EditCause::OffSheet));
         }
-        if !self.cells.has_room_to_copy(area, to) {
+        if !self.book.parts().has_room_to_copy(area, to) {
             return Err(EditFault::Refused(EditCause::CellsFull));
         }
         match self.make_copy(alloc, area, to) {
@@ -37,16 +38,18 @@ impl Workbook {
     }
 
     fn make_copy(&mut self, alloc: Global, area: Area, to: Cell) -> Result<(), NoMemory>
+        requires ready { self.old.spent ≡ false }
         requires sheet { to.sheet ≡ area.sheet }
         requires place { is_rectangle (area_at area to) ≡ true }
         requires room { length (after_copy self.old.book.cells area to) ≤ MOST_CELLS }
         ensures { OnOk result (Made self.old (Edit.Copy area to) self.new) }
     {
         self.touched.add_area(area_at(area, to))?;
-        self.cells.copy(alloc, area, to)
+        self.book.copy(alloc, area, to)
     }
 
     pub(crate) fn fill(&mut self, alloc: Global, from: Cell, area: Area) -> Result<(), EditFault>
+        requires { self.old.spent ≡ false }
         ensures done { OnOk result (Made self.old (Edit.Fill from area) self.new) }
         ensures refused { (cause : EditCause) → IsErrOf result (EditFault.Refused cause) →
             IsRefused self.old (Edit.Fill from area) cause self.new }
@@ -56,7 +59,7 @@ impl Workbook {
         if from.sheet != area.sheet {
             return Err(EditFault::Refused(EditCause::OffSheet));
         }
-        if !self.cells.has_room_to_fill(from, area) {
+        if !self.book.parts().has_room_to_fill(from, area) {
             return Err(EditFault::Refused(EditCause::CellsFull));
         }
         match self.make_fill(alloc, from, area) {
@@ -66,12 +69,13 @@ impl Workbook {
     }
 
     fn make_fill(&mut self, alloc: Global, from: Cell, area: Area) -> Result<(), NoMemory>
+        requires ready { self.old.spent ≡ false }
         requires sheet { from.sheet ≡ area.sheet }
         requires room { length (after_fill self.old.book.cells from
             (content_at self.old.book from) area) ≤ MOST_CELLS }
         ensures { OnOk result (Made self.old (Edit.Fill from area) self.new) }
     {
         self.touched.add_area(area)?;
-        self.cells.fill(alloc, from, area)
+        self.book.fill(alloc, from, area)
     }
 }

@@ -6,10 +6,10 @@ ghost use Rattle.workbook.specs.Workbook.{IsRefused, Made};
 use crate::fault::EditFault;
 use crate::touched::Touched;
 use crate::workbook::Workbook;
-use book_parts::BookParts;
 use calc_addr::{Area, NoMemory};
 use calc_model::{Edit, EditCause, MOST_GENERATED_ROWS, Text};
 use calc_names::NameFault;
+use linked_book::LinkedBook;
 use std::alloc::Global;
 
 impl Workbook {
@@ -19,13 +19,14 @@ impl Workbook {
         name: &Text,
         area: Area,
     ) -> Result<(), EditFault>
+        requires { self.old.spent ≡ false }
         ensures done { OnOk result (Made self.old (Edit.Name name.now area) self.new) }
         ensures refused { (cause : EditCause) → IsErrOf result (EditFault.Refused cause) →
             IsRefused self.old (Edit.Name name.now area) cause self.new }
         ensures no_memory { IsErrOf result EditFault.NoMemory → self.new.dead ≡ true }
         ensures not_dead { IsErrOf result EditFault.Dead → ⊥ }
     {
-        match self.cells.define_name(name, area) {
+        match self.book.define_name(alloc, name, area) {
             Ok(()) => match self.touched.add_name(alloc, name) {
                 Ok(()) => Ok(()),
                 Err(_) => Err(self.die()),
@@ -37,18 +38,20 @@ impl Workbook {
     }
 
     pub(crate) fn remove_name(&mut self, alloc: Global, name: &Text) -> Result<(), EditFault>
+        requires { self.old.spent ≡ false }
         ensures done { OnOk result (Made self.old (Edit.Unname name.now) self.new) }
         ensures refused { (cause : EditCause) → IsErrOf result (EditFault.Refused cause) →
             IsRefused self.old (Edit.Unname name.now) cause self.new }
         ensures no_memory { IsErrOf result EditFault.NoMemory → self.new.dead ≡ true }
         ensures not_dead { IsErrOf result EditFault.Dead → ⊥ }
     {
-        match self.cells.remove_name(name) {
+        match self.book.remove_name(alloc, name) {
             Ok(()) => match self.touched.add_name(alloc, name) {
                 Ok(()) => Ok(()),
                 Err(_) => Err(self.die()),
             },
-            Err(_) => Err(EditFault::Refused(EditCause::NoName)),
+            Err(NameFault::NoName) => Err(EditFault::Refused(EditCause::NoName)),
+            Err(_) => Err(self.die()),
         }
     }
 
@@ -59,9 +62,9 @@ impl Workbook {
         ensures no_memory { IsErrOf result EditFault.NoMemory → self.new.dead ≡ true }
         ensures not_dead { IsErrOf result EditFault.Dead → ⊥ }
     {
-        match BookParts::generated(alloc, start, rows) {
-            Ok(cells) => {
-                self.cells = cells;
+        match LinkedBook::generated(alloc, start, rows) {
+            Ok(book) => {
+                self.book = book;
                 self.touched = Touched::all(alloc);
                 Ok(())
             }

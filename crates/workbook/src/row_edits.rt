@@ -28,6 +28,7 @@ impl Workbook {
         place: u32,
         count: u32,
     ) -> Result<(), EditFault>
+        requires { self.old.spent ≡ false }
         ensures done { OnOk result (Made self.old (Edit.InsertRows sheet place count) self.new) }
         ensures refused { (cause : EditCause) → IsErrOf result (EditFault.Refused cause) →
             IsRefused self.old (Edit.InsertRows sheet place count) cause self.new }
@@ -38,7 +39,7 @@ impl Workbook {
         if !are_rows(sheet, place, count) {
             return Err(EditFault::Refused(EditCause::OffSheet));
         }
-        if self.cells.pushes_out(sheet, place, count) {
+        if self.book.parts().pushes_out(sheet, place, count) {
             return Err(EditFault::Refused(EditCause::RowsFull));
         }
         match self.make_insertion(alloc, sheet, place, count) {
@@ -54,6 +55,7 @@ impl Workbook {
         place: u32,
         count: u32,
     ) -> Result<(), NoMemory>
+        requires ready { self.old.spent ≡ false }
         requires rows { are_rows sheet place count ≡ true }
         requires inside { is_pushed_out sheet place count self.old.book.cells ≡ false }
         ensures done { OnOk result (Made self.old (Edit.InsertRows sheet place count) self.new) }
@@ -65,7 +67,7 @@ impl Workbook {
             count,
         };
         self.touch_rows(alloc, sheet, place, change)?;
-        self.cells.insert_rows(alloc, sheet, place, count)
+        self.book.insert_rows(alloc, sheet, place, count)
     }
 
     pub(crate) fn delete_rows(
@@ -75,6 +77,7 @@ impl Workbook {
         place: u32,
         count: u32,
     ) -> Result<(), EditFault>
+        requires { self.old.spent ≡ false }
         ensures done { OnOk result (Made self.old (Edit.DeleteRows sheet place count) self.new) }
         ensures refused { (cause : EditCause) → IsErrOf result (EditFault.Refused cause) →
             IsRefused self.old (Edit.DeleteRows sheet place count) cause self.new }
@@ -98,6 +101,7 @@ impl Workbook {
         place: u32,
         count: u32,
     ) -> Result<(), NoMemory>
+        requires ready { self.old.spent ≡ false }
         requires rows { are_rows sheet place count ≡ true }
         ensures done { OnOk result (Made self.old (Edit.DeleteRows sheet place count) self.new) }
         ensures was_book { OnOk result (IsBook self.old.book) }
@@ -108,7 +112,7 @@ impl Workbook {
             count,
         };
         self.touch_rows(alloc, sheet, place, change)?;
-        self.cells.delete_rows(alloc, sheet, place, count)
+        self.book.delete_rows(alloc, sheet, place, count)
     }
 
     /// Touches the cells of a sheet from a row on, and the formulas that read an area that changes.
@@ -124,6 +128,7 @@ impl Workbook {
         requires to { place ≤ LAST_ROW }
         requires change { IsChange change }
         ensures book { self.new.book ≡ self.old.book }
+        ensures hub { self.new.spent ≡ self.old.spent }
         ensures results { self.new.results ≡ self.old.results }
         ensures alive { self.new.dead ≡ self.old.dead }
         ensures names { self.new.touched.names ≡ self.old.touched.names }
@@ -131,7 +136,7 @@ impl Workbook {
             ≡ (lies_in self.old.touched q || (covers (rows_from sheet place) q
             || list_any (changes_area change) (reads self.old.book q)))) }
     {
-        let readers = readers(alloc, &self.cells)?;
+        let readers = readers(alloc, self.book.parts())?;
         let area = Area {
             sheet,
             first_col: 1,

@@ -9,10 +9,12 @@ ghost use Rattle.calc_model.specs.Printed.{printed_content};
 ghost use Rattle.calc_model.specs.Val.{val};
 ghost use Rattle.calc_model.specs.ValueTexts.{lent};
 ghost use Rattle.book_parts.specs.ShownCells.{shown_values};
+ghost use Rattle.listener_hub.specs.Hubs.{areas_read};
+ghost use Rattle.formula_listeners.specs.Held.{HoldsReads};
 ghost use Rattle.cell_columns.specs.ColumnRuns.{AllLie, IsSheetColumn, blocks_in, groups_in, rows_of_block, rows_of_group, rows_of_run};
 ghost use Rattle.calc_model.specs.declared.edit.EditCause.{EditCause};
 ghost use Rattle.workbook.specs.Touched.{contains_cell};
-ghost use Rattle.workbook.specs.Workbook.{AfterNoMemory, IsFresh, IsRefused, Made, WasBook, stale_of, values_of};
+ghost use Rattle.workbook.specs.Workbook.{AfterNoMemory, IsFresh, IsRefused, Made, WasBook, mended, stale_of, values_of};
 
 use crate::fault::EditFault;
 use crate::reach::reached;
@@ -23,18 +25,20 @@ use calc_addr::{Area, Cell, NoMemory};
 use calc_model::{Content, Edit, EditCause, MOST_CELLS, Seen};
 use formula_groups::Group;
 use formula_printer::print_content;
+use linked_book::LinkedBook;
+use listener_hub::Hub;
 use plain_evaluator::evaluate;
 use std::alloc::Global;
 use std::collections::BTreeSet;
 use std::marker::Model;
 
-/// The parts of a book, the results of the last recalculation, what edits
-/// touched since then, and whether it is dead. Contracts see all four; `stale_of` says which formulas are
-/// stale, and `values_of` what cells show by the results.
+/// The parts of a book with its hub, the results of the last recalculation, what edits touched since then,
+/// and whether it is dead. Contracts see the book, whether the hub is spent, and the other three;
+/// `stale_of` says which formulas are stale, and `values_of` what cells show by the results.
 #[derive(Drop)]
 pub struct Workbook {
     alloc: Global,
-    pub(crate) cells: BookParts,
+    pub(crate) book: LinkedBook,
     results: ResultMap,
     pub(crate) touched: Touched,
     dead: bool,
@@ -59,7 +63,8 @@ impl Model for Workbook {
     ghost coded = { Prim.hlevel (codes, coded_tree.the_row.coded) };
 
     ghost view = { λ w. record {
-      book = w.cells;
+      book = w.book.book;
+      spent = w.book.spent;
       results = w.results;
       touched = w.touched;
       dead = w.dead;
@@ -74,31 +79,36 @@ impl Workbook {
         ensures stale { IfOk result (λ w. (q : Place) → stale_of w q ≡ false) }
         ensures fresh { IfOk result (λ w. IsFresh w) }
         ensures alive { IfOk result (λ w. w.dead ≡ false) }
+        ensures ready { IfOk result (λ w. w.spent ≡ false) }
     {
-        let cells = BookParts::new(alloc)?;
+        let parts = BookParts::new(alloc)?;
+        let book = LinkedBook::link(alloc, parts)?;
         Ok(Workbook {
             alloc,
-            cells,
+            book,
             results: ResultMap::new(alloc),
             touched: Touched::none(alloc),
             dead: false,
         })
     }
 
-    /// The workbook of these cells, whose formulas are all stale.
-    pub fn load(alloc: Global, cells: BookParts) -> Workbook
-        ensures book { result.book ≡ cells }
-        ensures stale { (q : Place) → stale_of result q ≡ is_formula_cell cells q }
-        ensures fresh { IsFresh result }
-        ensures alive { result.dead ≡ false }
+    /// The workbook of these cells, whose formulas are all stale. It makes their hub, which is linear in
+    /// their groups.
+    pub fn load(alloc: Global, cells: BookParts) -> Result<Workbook, NoMemory>
+        ensures book { IfOk result (λ w. w.book ≡ cells) }
+        ensures stale { IfOk result (λ w. (q : Place) → stale_of w q ≡ is_formula_cell cells q) }
+        ensures fresh { IfOk result (λ w. IsFresh w) }
+        ensures alive { IfOk result (λ w. w.dead ≡ false) }
+        ensures ready { IfOk result (λ w. w.spent ≡ false) }
     {
-        Workbook {
+        let book = LinkedBook::link(alloc, cells)?;
+        Ok(Workbook {
             alloc,
-            cells,
+            book,
             results: ResultMap::new(alloc),
             touched: Touched::all(alloc),
             dead: false,
-        }
+        })
     }
 
     /// Whether memory was refused in the midst of an edit. A dead workbook takes no edit.
@@ -112,14 +122,14 @@ impl Workbook {
     pub fn cell_count(&self) -> usize
         ensures { result ≡ length self.now.book.cells }
     {
-        self.cells.len()
+        self.book.parts().len()
     }
 
     /// How many cells hold a formula. Linear in the cells.
     pub fn formula_count(&self) -> usize
         ensures { result ≡ formula_count self.now.book }
     {
-        self.cells.formula_count()
+        self.book.parts().formula_count()
     }
 
     /// Makes an edit. To set a cell takes the logarithm of the cells, and to clear an area that for each of
@@ -131,7 +141,7 @@ impl Workbook {
         requires { is_makeable edit.now ≡ true }
         ensures done { OnOk result (Made self.old edit.now self.new) }
         ensures refused { (cause : EditCause) → IsErrOf result (EditFault.Refused cause) →
-            IsRefused self.old edit.now cause self.new }
+            IsRefused (mended self.old) edit.now cause self.new }
         ensures dead { IsErrOf result EditFault.Dead ↔ (self.old.dead ≡ true) }
         ensures kept { self.old.dead ≡ true → self.new ≡ self.old }
         ensures no_memory { IsErrOf result EditFault.NoMemory →
@@ -141,13 +151,27 @@ impl Workbook {
         if self.dead {
             return Err(EditFault::Dead);
         }
+        if self.book.mend(alloc).is_err() {
+            return Err(self.give_up(edit));
+        }
         self.make(alloc, edit)
     }
 
-    /// Makes an edit of a workbook that isn't dead.
+    /// The fault of an edit for which the hub isn't made anew.
+    fn give_up(&mut self, edit: &Edit) -> EditFault
+        ensures fault { result ≡ EditFault.NoMemory }
+        ensures after { AfterNoMemory self.old edit.now self.new }
+    {
+        match edit {
+            Edit::Set { .. } | Edit::Clear { .. } => EditFault::NoMemory,
+            _ => self.die(),
+        }
+    }
+
+    /// Makes an edit of a workbook that isn't dead and whose hub isn't spent.
     fn make(&mut self, alloc: Global, edit: &Edit) -> Result<(), EditFault>
         requires makeable { is_makeable edit.now ≡ true }
-        requires alive { self.old.dead ≡ false }
+        requires ready { self.old.spent ≡ false }
         ensures done { OnOk result (Made self.old edit.now self.new) }
         ensures refused { (cause : EditCause) → IsErrOf result (EditFault.Refused cause) →
             IsRefused self.old edit.now cause self.new }
@@ -178,13 +202,15 @@ impl Workbook {
     }
 
     fn set(&mut self, alloc: Global, cell: Cell, content: &Content) -> Result<(), EditFault>
+        requires { self.old.spent ≡ false }
         ensures done { OnOk result (Made self.old (Edit.Set cell content.now) self.new) }
         ensures refused { (cause : EditCause) → IsErrOf result (EditFault.Refused cause) →
             IsRefused self.old (Edit.Set cell content.now) cause self.new }
-        ensures no_memory { IsErrOf result EditFault.NoMemory → self.new ≡ self.old }
+        ensures no_memory { IsErrOf result EditFault.NoMemory →
+            mended self.new ≡ mended self.old }
         ensures not_dead { IsErrOf result EditFault.Dead → ⊥ }
     {
-        if !self.cells.has_room(cell, content) {
+        if !self.book.parts().has_room(cell, content) {
             return Err(EditFault::Refused(EditCause::CellsFull));
         }
         match self.put(alloc, cell, content) {
@@ -195,12 +221,13 @@ impl Workbook {
 
     /// Sets a cell to the content.
     fn put(&mut self, alloc: Global, cell: Cell, content: &Content) -> Result<(), NoMemory>
+        requires ready { self.old.spent ≡ false }
         requires room { length (with_content self.old.book.cells cell content.now) ≤ MOST_CELLS }
         ensures done { OnOk result (Made self.old (Edit.Set cell content.now) self.new) }
-        ensures kept { OnErr result (self.new ≡ self.old) }
+        ensures kept { OnErr result (mended self.new ≡ mended self.old) }
     {
         let added = self.touched.add_cell(cell)?;
-        match self.cells.set(alloc, cell, content) {
+        match self.book.set(alloc, cell, content) {
             Ok(()) => Ok(()),
             Err(refused) => {
                 if added {
@@ -213,9 +240,11 @@ impl Workbook {
     }
 
     fn clear(&mut self, area: Area) -> Result<(), EditFault>
+        requires { self.old.spent ≡ false }
         ensures done { OnOk result (Made self.old (Edit.Clear area) self.new) }
         ensures refused { (cause : EditCause) → IsErrOf result (EditFault.Refused cause) → ⊥ }
-        ensures no_memory { IsErrOf result EditFault.NoMemory → self.new ≡ self.old }
+        ensures no_memory { IsErrOf result EditFault.NoMemory →
+            mended self.new ≡ mended self.old }
         ensures not_dead { IsErrOf result EditFault.Dead → ⊥ }
     {
         match self.empty(area) {
@@ -226,11 +255,12 @@ impl Workbook {
 
     /// Empties the cells of an area.
     fn empty(&mut self, area: Area) -> Result<(), NoMemory>
+        requires { self.old.spent ≡ false }
         ensures done { OnOk result (Made self.old (Edit.Clear area) self.new) }
-        ensures kept { OnErr result (self.new ≡ self.old) }
+        ensures kept { OnErr result (mended self.new ≡ mended self.old) }
     {
         self.touched.push_area(area)?;
-        match self.cells.clear(area) {
+        match self.book.clear(area) {
             Ok(()) => Ok(()),
             Err(refused) => {
                 self.touched.pop_area();
@@ -253,8 +283,8 @@ impl Workbook {
     pub fn stale_count(&self, alloc: Global) -> Result<usize, NoMemory>
         ensures { IfOk result (λ count. count ≡ count_in self.now.book (stale_of self.now)) }
     {
-        let found = reached(alloc, &self.cells, &self.touched)?;
-        count_found(alloc, &self.cells, &found)
+        let found = reached(alloc, self.book.parts(), &self.touched)?;
+        count_found(alloc, self.book.parts(), &found)
     }
 
     /// Evaluates all formulas from scratch. None is stale afterwards, and every cell has its value. Where
@@ -268,10 +298,13 @@ impl Workbook {
         ensures fresh { OnOk result (IsFresh self.new) }
         ensures book { self.new.book ≡ self.old.book }
         ensures alive { self.new.dead ≡ self.old.dead }
+        ensures ready { OnOk result (self.new.spent ≡ false) }
         ensures kept { OnErr result (self.new ≡ self.old) }
     {
         let stale = self.stale_count(alloc)?;
-        self.results = evaluate(alloc, &self.cells)?;
+        let results = evaluate(alloc, self.book.parts())?;
+        self.book.mend(alloc)?;
+        self.results = results;
         self.touched = Touched::none(alloc);
         Ok(Recalculated { stale })
     }
@@ -283,7 +316,7 @@ impl Workbook {
         ensures fresh { IsFresh self.now → stale_of self.now cell ≡ false
             → lent result ≡ val self.now.book cell }
     {
-        shown(&self.cells, &self.results, cell)
+        shown(self.book.parts(), &self.results, cell)
     }
 
     /// What all cells show.
@@ -293,7 +326,7 @@ impl Workbook {
         ensures fresh { IsFresh self.now → ((q : Place) → stale_of self.now q ≡ false)
             → (q : Place) → shown_values result q ≡ val self.now.book q }
     {
-        ShownCells::of(&self.cells, &self.results)
+        ShownCells::of(self.book.parts(), &self.results)
     }
 
     /// The formula groups of a column, downwards: its maximal runs of formulas with one relative form. It
@@ -304,7 +337,7 @@ impl Workbook {
             ≡ map (rows_of_run sheet col) (groups_in self.now.book sheet col) }
         ensures rows { AllLie (map (rows_of_group sheet col) result.now) }
     {
-        self.cells.groups(sheet, col)
+        self.book.parts().groups(sheet, col)
     }
 
     /// The blocks of a column, downwards: its maximal runs of cells of one kind. It takes no time.
@@ -313,7 +346,15 @@ impl Workbook {
         ensures blocks { result.now ≡ blocks_in self.now.book sheet col }
         ensures rows { AllLie (map (rows_of_block sheet col) result.now) }
     {
-        self.cells.blocks(sheet, col)
+        self.book.parts().blocks(sheet, col)
+    }
+
+    /// Which formulas read a cell. It takes no time.
+    pub fn hub(&self) -> &Hub
+        ensures spent { result.now.spent ≡ self.now.spent }
+        ensures holds { self.now.spent ≡ false → HoldsReads (areas_read result.now) self.now.book }
+    {
+        self.book.hub()
     }
 
     /// Appends the printed content of a cell. It takes the logarithm of the blocks of its column, and is
@@ -323,7 +364,7 @@ impl Workbook {
             ≡ out.old.items ++ printed_content (content_at self.now.book cell)) }
         ensures err { OnErr result (out.new.items ≡ out.old.items) }
     {
-        let content = self.cells.content(self.alloc, cell)?;
+        let content = self.book.parts().content(self.alloc, cell)?;
         print_content(&content, out)
     }
 }

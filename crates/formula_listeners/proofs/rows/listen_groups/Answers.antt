@@ -3,7 +3,7 @@ use Rattle.std.proofs.lemmas.Bool.{and_parts}
 use Rattle.calc_addr.specs.Places.{IsRows}
 use Rattle.listener_hub.specs.Hubs.{areas_read}
 use Rattle.registration_slab.specs.Slab.{is_in}
-use Rattle.formula_listeners.specs.Coded.{has_row}
+use Rattle.formula_listeners.specs.GroupCells.{has_row}
 use Rattle.formula_listeners.proofs.GroupWalks.{all_held, code_there, free, more}
 use Rattle.formula_listeners.proofs.rows.listen_groups.Goals as goal
 

@@ -2,7 +2,8 @@ use Rattle.std.proofs.Common.{◌≤◌, ◌<◌, cond, ap, subst, ◌∙◌, ar
 use Rattle.calc_addr.specs.declared.cell.TheConstants.{LAST_SHEET}
 use Rattle.calc_addr.specs.Places.{covers}
 use Rattle.listener_hub.specs.Hubs.{areas_read}
-use Rattle.formula_listeners.specs.Coded.{coded_areas, columns_of}
+use Rattle.formula_code.specs.Coded.{coded_areas}
+use Rattle.formula_groups.specs.GroupRows.{columns_of}
 use Rattle.formula_listeners.specs.Renamed.{AgreeElsewhere}
 use Rattle.formula_listeners.proofs.AreaCells.{all_sheets, in_sheet, not_earlier, one_sheet_more, sheet_area}
 use Rattle.formula_listeners.proofs.WholeBooks.{holds_renamed}

@@ -2,10 +2,10 @@ use Rattle.std.proofs.Common.{◌≡◌, ℕ, false, true, cond, ◌&&◌, nat_l
 use Rattle.calc_addr.specs.Places.{Place}
 use Rattle.calc_model.specs.Books.{NameEntries, is_place}
 use Rattle.formula_code.specs.Codes.{Codes}
-use Rattle.formula_groups.specs.GroupRows.{GroupRows}
+use Rattle.formula_groups.specs.GroupRows.{GroupRows, columns_of}
 use Rattle.listener_hub.specs.Hubs.{areas_read}
 use Rattle.listener_hub.specs.Known.{Known}
-use Rattle.formula_listeners.specs.Coded.{coded_areas, columns_of}
+use Rattle.formula_code.specs.Coded.{coded_areas}
 use Rattle.formula_listeners.specs.Renamed.{AgreeElsewhere}
 use Rattle.formula_listeners.proofs.users.listen_users.Given as goal
 

@@ -2,7 +2,8 @@ use Rattle.std.proofs.Common.{◌≤◌, ◌+◌, cond, sym, ap, subst, ◌∙�
 use Rattle.calc_addr.specs.Places.{Rectangle}
 use Rattle.listener_hub.specs.Hubs.{areas_read}
 use Rattle.registration_slab.specs.Slab.{is_in}
-use Rattle.formula_listeners.specs.Coded.{coded_areas, columns_of}
+use Rattle.formula_code.specs.Coded.{coded_areas}
+use Rattle.formula_groups.specs.GroupRows.{columns_of}
 use Rattle.formula_listeners.proofs.AreaCells.{before_end, column, in_area, not_before, one_more}
 use Rattle.formula_listeners.proofs.users.renew_area.Invariants.{AreRenewed}
 use Rattle.formula_listeners.proofs.users.renew_area.Goals as goal

@@ -1,4 +1,4 @@
-use Rattle.formula_listeners.specs.Coded.{columns_of}
+use Rattle.formula_groups.specs.GroupRows.{columns_of}
 use Rattle.listener_hub.specs.Hubs.{areas_read}
 use Rattle.formula_listeners.proofs.WholeBooks.{holds_book}
 use Rattle.formula_listeners.proofs.whole.listen_all.Goals as goal

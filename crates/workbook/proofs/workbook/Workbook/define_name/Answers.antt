@@ -14,8 +14,8 @@ pub returns-in-Ok-add_name-clause-done : goal.returns-in-Ok-add_name-clause-done
 returns-in-Ok-add_name-clause-done c =
     let name = c.args.name.now in
     let area = c.args.area in
-    let before : State = record { book = c.self.inside.cells; results = c.self.inside.results; touched = c.self.inside.touched; dead = c.self.inside.dead } in
-    let after : State = record { book = c.define_name.new.self; results = c.self.inside.results; touched = c.add_name.new.self; dead = c.self.inside.dead } in
+    let before : State = record { book = c.self.inside.book.book; spent = c.self.inside.book.spent; results = c.self.inside.results; touched = c.self.inside.touched; dead = c.self.inside.dead } in
+    let after : State = record { book = c.define_name.new.self.book; spent = c.define_name.new.self.spent; results = c.self.inside.results; touched = c.add_name.new.self; dead = c.self.inside.dead } in
     let spelled = not_false (is_name name) (λ misspelled. let none = c.in-Ok.ensures.bad_name.1 misspelled in cc) in
     subst (λ state. Made state (Name name area) after) c.self.view_is (record {
       step = define_step before.book name area spelled after.book c.in-Ok.ensures.cells c.in-Ok.ensures.names c.in-Ok.ensures.book.names_in_limit;
@@ -29,7 +29,7 @@ pub returns-in-Err-Full-clause-refused : goal.returns-in-Err-Full-clause-refused
 returns-in-Err-Full-clause-refused c = λ cause is.
     let same : NamesFull ≡ cause = cc in
     let full = c.in-Err-Full.ensures.full.0 (ap Err c.in-Err-Full.field-0-is) in
-    let before : State = record { book = c.self.inside.cells; results = c.self.inside.results; touched = c.self.inside.touched; dead = c.self.inside.dead } in
+    let before : State = record { book = c.self.inside.book.book; spent = c.self.inside.book.spent; results = c.self.inside.results; touched = c.self.inside.touched; dead = c.self.inside.dead } in
     record {
       step = subst (λ (state : State). step state.book (Name c.args.name.now c.args.area) ≡ Err cause) c.self.view_is
           (define_full before.book c.args.name.now c.args.area full.spelled full.new full.full ∙ ap Err same);

@@ -7,7 +7,7 @@ use Rattle.workbook.proofs.workbook.Workbook.generate.Goals as goal
 
 pub returns-in-Ok-clause-done : goal.returns-in-Ok-clause-done
 returns-in-Ok-clause-done c =
-    let before : State = record { book = c.self.inside.cells; results = c.self.inside.results; touched = c.self.inside.touched; dead = c.self.inside.dead } in
+    let before : State = record { book = c.self.inside.book.book; spent = c.self.inside.book.spent; results = c.self.inside.results; touched = c.self.inside.touched; dead = c.self.inside.dead } in
     let after : State = record { book = c.in-Ok.cells; results = c.self.inside.results; touched = c.all.result; dead = c.self.inside.dead } in
     subst (λ state. Made state (Make c.args.start c.args.rows) after) c.self.view_is (record {
       step = ap Ok (sym c.in-Ok.ensures.book);

@@ -6,7 +6,7 @@ use Rattle.calc_model.specs.declared.limits.TheConstants.{MOST_CELLS}
 use Rattle.calc_model.specs.CellEdits.{after_copy, area_at}
 use Rattle.workbook.specs.Touched.{lies_in}
 use Rattle.workbook.specs.Workbook.{Made, State}
-use Rattle.workbook.proofs.Contents.{copy_leaves}
+use Rattle.book_parts.proofs.LeftCells.{copy_leaves}
 use Rattle.workbook.proofs.Staleness.{stale_more}
 use Rattle.workbook.proofs.Steps.{copy_step}
 use Rattle.workbook.proofs.workbook.Workbook.make_copy.Goals as goal
@@ -15,8 +15,8 @@ pub returns : goal.returns
 returns c =
     let area = c.args.area in
     let to = c.args.to in
-    let before : State = record { book = c.self.inside.cells; results = c.self.inside.results; touched = c.self.inside.touched; dead = c.self.inside.dead } in
-    let after : State = record { book = c.copy.new.self; results = c.self.inside.results; touched = c.add_area.new.self; dead = c.self.inside.dead } in
+    let before : State = record { book = c.self.inside.book.book; spent = c.self.inside.book.spent; results = c.self.inside.results; touched = c.self.inside.touched; dead = c.self.inside.dead } in
+    let after : State = record { book = c.copy.new.self.book; spent = c.copy.new.self.spent; results = c.self.inside.results; touched = c.add_area.new.self; dead = c.self.inside.dead } in
     let room : length (after_copy before.book.cells area to) ≤ MOST_CELLS = subst (λ (state : State). length (after_copy state.book.cells area to) ≤ MOST_CELLS) (sym c.self.view_is) c.requires.room in
     let touches = subst (λ (a : Rectangle). (q : Place) → lies_in after.touched q ≡ (lies_in before.touched q || covers a q)) c.area_at.ensures c.in_ok-add_area.ensures.touched in
     on_ok_weaker c.copy.result

@@ -16,8 +16,8 @@ returns-clause-done c =
     let place = c.args.place in
     let count = c.args.count in
     let before : State = c.args.self.now in
-    let after : State = record { book = c.delete_rows.new.self; results = c.self.inside.results; touched = c.self.inside.touched; dead = c.self.inside.dead } in
-    let book : c.self.inside.cells ≡ before.book = ap (λ (state : State). state.book) c.self.view_is ∙ c.in_ok-touch_rows.ensures.book in
+    let after : State = record { book = c.delete_rows.new.self.book; spent = c.delete_rows.new.self.spent; results = c.self.inside.results; touched = c.self.inside.touched; dead = c.self.inside.dead } in
+    let book : c.self.inside.book.book ≡ before.book = ap (λ (state : State). state.book) c.self.view_is ∙ c.in_ok-touch_rows.ensures.book in
     let was : IsBook before.book = subst IsBook book c.delete_rows.ensures.was_book in
     let touched : after.touched.names ≡ before.touched.names = ap (λ (state : State). state.touched.names) c.self.view_is ∙ c.in_ok-touch_rows.ensures.names in
     let joined = subst (λ (parts : Parts). (q : Place) → lies_in parts q ≡ (lies_in before.touched q || (covers (rows_from sheet place) q || reads_any before.book (is_changed_by_deletion sheet place count) q))) (sym (ap (λ (state : State). state.touched) c.self.view_is)) c.in_ok-touch_rows.ensures.touched in
@@ -37,5 +37,5 @@ returns-clause-done c =
 pub returns-clause-was_book : goal.returns-clause-was_book
 returns-clause-was_book c =
     let before : State = c.args.self.now in
-    let book : c.self.inside.cells ≡ before.book = ap (λ (state : State). state.book) c.self.view_is ∙ c.in_ok-touch_rows.ensures.book in
+    let book : c.self.inside.book.book ≡ before.book = ap (λ (state : State). state.book) c.self.view_is ∙ c.in_ok-touch_rows.ensures.book in
     on_ok_so c.delete_rows.result (subst IsBook book c.delete_rows.ensures.was_book)

@@ -5,7 +5,7 @@ use Rattle.calc_model.specs.declared.edit.Edit.TheVariants.{Fill}
 use Rattle.calc_model.specs.declared.limits.TheConstants.{MOST_CELLS}
 use Rattle.calc_model.specs.Books.{content_at}
 use Rattle.workbook.specs.Workbook.{Made, State}
-use Rattle.workbook.proofs.Contents.{fill_leaves}
+use Rattle.book_parts.proofs.LeftCells.{fill_leaves}
 use Rattle.workbook.proofs.Staleness.{stale_more}
 use Rattle.workbook.proofs.Steps.{fill_step, filled}
 use Rattle.workbook.proofs.workbook.Workbook.make_fill.Goals as goal
@@ -14,8 +14,8 @@ pub returns : goal.returns
 returns c =
     let from = c.args.from in
     let area = c.args.area in
-    let before : State = record { book = c.self.inside.cells; results = c.self.inside.results; touched = c.self.inside.touched; dead = c.self.inside.dead } in
-    let after : State = record { book = c.fill.new.self; results = c.self.inside.results; touched = c.add_area.new.self; dead = c.self.inside.dead } in
+    let before : State = record { book = c.self.inside.book.book; spent = c.self.inside.book.spent; results = c.self.inside.results; touched = c.self.inside.touched; dead = c.self.inside.dead } in
+    let after : State = record { book = c.fill.new.self.book; spent = c.fill.new.self.spent; results = c.self.inside.results; touched = c.add_area.new.self; dead = c.self.inside.dead } in
     let room : length (filled before.book from area) ≤ MOST_CELLS = subst (λ (state : State). length (filled state.book from area) ≤ MOST_CELLS) (sym c.self.view_is) c.requires.room in
     on_ok_weaker c.fill.result
     (λ cells. subst (λ state. Made state (Fill from area) after) c.self.view_is (record {

@@ -16,8 +16,8 @@ returns-clause-done c =
     let place = c.args.place in
     let count = c.args.count in
     let before : State = c.args.self.now in
-    let after : State = record { book = c.insert_rows.new.self; results = c.self.inside.results; touched = c.self.inside.touched; dead = c.self.inside.dead } in
-    let book : c.self.inside.cells ≡ before.book = ap (λ (state : State). state.book) c.self.view_is ∙ c.in_ok-touch_rows.ensures.book in
+    let after : State = record { book = c.insert_rows.new.self.book; spent = c.insert_rows.new.self.spent; results = c.self.inside.results; touched = c.self.inside.touched; dead = c.self.inside.dead } in
+    let book : c.self.inside.book.book ≡ before.book = ap (λ (state : State). state.book) c.self.view_is ∙ c.in_ok-touch_rows.ensures.book in
     let was : IsBook before.book = subst IsBook book c.insert_rows.ensures.was_book in
     let inside : is_pushed_out sheet place count before.book.cells ≡ false = c.requires.inside in
     let touched : after.touched.names ≡ before.touched.names = ap (λ (state : State). state.touched.names) c.self.view_is ∙ c.in_ok-touch_rows.ensures.names in
@@ -38,5 +38,5 @@ returns-clause-done c =
 pub returns-clause-was_book : goal.returns-clause-was_book
 returns-clause-was_book c =
     let before : State = c.args.self.now in
-    let book : c.self.inside.cells ≡ before.book = ap (λ (state : State). state.book) c.self.view_is ∙ c.in_ok-touch_rows.ensures.book in
+    let book : c.self.inside.book.book ≡ before.book = ap (λ (state : State). state.book) c.self.view_is ∙ c.in_ok-touch_rows.ensures.book in
     on_ok_so c.insert_rows.result (subst IsBook book c.insert_rows.ensures.was_book)

@@ -6,7 +6,7 @@ use Rattle.calc_model.specs.declared.limits.TheConstants.{MOST_CELLS}
 use Rattle.calc_model.specs.Books.{Book, with_content}
 use Rattle.workbook.specs.Touched.{Parts}
 use Rattle.workbook.specs.Workbook.{Made, State}
-use Rattle.workbook.proofs.Contents.{set_leaves}
+use Rattle.book_parts.proofs.LeftCells.{set_leaves}
 use Rattle.workbook.proofs.Sets.{taken_back}
 use Rattle.workbook.proofs.Staleness.{stale_more}
 use Rattle.workbook.proofs.Steps.{set_step}
@@ -14,8 +14,8 @@ use Rattle.workbook.proofs.workbook.Workbook.put.Goals as goal
 
 pub returns-in-Ok-clause-done : goal.returns-in-Ok-clause-done
 returns-in-Ok-clause-done c =
-    let before : State = record { book = c.self.inside.cells; results = c.self.inside.results; touched = c.self.inside.touched; dead = c.self.inside.dead } in
-    let after : State = record { book = c.set.new.self; results = c.self.inside.results; touched = c.add_cell.new.self; dead = c.self.inside.dead } in
+    let before : State = record { book = c.self.inside.book.book; spent = c.self.inside.book.spent; results = c.self.inside.results; touched = c.self.inside.touched; dead = c.self.inside.dead } in
+    let after : State = record { book = c.set.new.self.book; spent = c.set.new.self.spent; results = c.self.inside.results; touched = c.add_cell.new.self; dead = c.self.inside.dead } in
     let cells = c.in-Ok.ensures.cells in
     let room : length (with_content before.book.cells c.args.cell c.args.content.now) ≤ MOST_CELLS = subst (λ (state : State). length (with_content state.book.cells c.args.cell c.args.content.now) ≤ MOST_CELLS) (sym c.self.view_is) c.requires.room in
     subst (λ state. Made state (Set c.args.cell c.args.content.now) after) c.self.view_is (record {
@@ -31,5 +31,5 @@ pub returns-then-added-clause-kept : goal.returns-then-added-clause-kept
 returns-then-added-clause-kept c =
     let back = taken_back c.self.inside.touched c.add_cell.new.self c.remove_cell.new.self c.args.cell c.in_ok-added.ensures.parts c.remove_cell.ensures (sym c.if-added.true ∙ c.in_ok-added.ensures.added) in
     ap (λ (book : Book). record { book = book; results = c.self.inside.results; touched = c.remove_cell.new.self; dead = c.self.inside.dead }) c.in-Err.ensures.kept
-    ∙ ap (λ (touched : Parts). record { book = c.self.inside.cells; results = c.self.inside.results; touched = touched; dead = c.self.inside.dead }) back
+    ∙ ap (λ (touched : Parts). record { book = c.self.inside.book.book; spent = c.self.inside.book.spent; results = c.self.inside.results; touched = touched; dead = c.self.inside.dead }) back
     ∙ c.self.view_is

@@ -7,7 +7,7 @@ use Rattle.workbook.proofs.workbook.Workbook.stale_count.Goals as goal
 
 pub returns : goal.returns
 returns c =
-    let state : State = record { book = c.self.inside.cells; results = c.self.inside.results; touched = c.self.inside.touched; dead = c.self.inside.dead } in
+    let state : State = record { book = c.self.inside.book.book; spent = c.self.inside.book.spent; results = c.self.inside.results; touched = c.self.inside.touched; dead = c.self.inside.dead } in
     IfOk-weaker c.count_found.result _ _
     (λ count is.
     is

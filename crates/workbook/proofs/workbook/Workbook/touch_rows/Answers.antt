@@ -17,7 +17,7 @@ or_assoc false b c = refl
 pub returns-clause-touched : goal.returns-clause-touched
 returns-clause-touched c =
     let changes = changes_area c.args.change in
-    let before : State = record { book = c.self.inside.cells; results = c.self.inside.results; touched = c.self.inside.touched; dead = c.self.inside.dead } in
+    let before : State = record { book = c.self.inside.book.book; spent = c.self.inside.book.spent; results = c.self.inside.results; touched = c.self.inside.touched; dead = c.self.inside.dead } in
     on_ok_weaker c.touch_readers.result
     (λ touches. subst (λ (state : State). (q : Place) → lies_in c.touch_readers.new.touched q ≡ (lies_in state.touched q || (covers (rows_from c.args.sheet c.args.place) q || list_any changes (reads state.book q)))) c.self.view_is
     (λ q.

@@ -1,7 +1,7 @@
 -- The formulas of a book by the codes of its columns: which code each cell has, and what its formula reads.
-use Rattle.std.specs.Prelude.{◌≡◌, ◌<◌, ℕ, ◌+◌, ◌-◌, ◌*◌, Bool, ◌&&◌, nat_le, List, [], length, map, Option, None, Some, option_map, slice_index_or}
+use Rattle.std.specs.Prelude.{◌≡◌, ◌<◌, ℕ, ◌+◌, ◌-◌, ◌*◌, List, [], length, Option, None, Some, option_map, slice_index_or}
 use Rattle.calc_addr.specs.declared.cell.TheConstants.{LAST_COL, LAST_ROW, LAST_SHEET}
-use Rattle.calc_addr.specs.Places.{IsPlace, Place, Rectangle, Rows}
+use Rattle.calc_addr.specs.Places.{IsPlace, Place, Rectangle}
 use Rattle.calc_model.specs.declared.tree.Tree.{Tree}
 use Rattle.calc_model.specs.declared.content.Content.{Content}
 use Rattle.calc_model.specs.declared.content.Content.TheVariants.{Formula}
@@ -9,16 +9,10 @@ use Rattle.calc_model.specs.Books.{Book, NameEntries, content_at, entry_named}
 use Rattle.calc_model.specs.Listeners.{ReadAreas}
 use Rattle.calc_model.specs.Reads.{areas}
 use Rattle.formula_code.specs.Codes.{Codes, IsCodeAt, tree_at}
-use Rattle.formula_groups.specs.declared.group.Group.{Group}
-use Rattle.formula_groups.specs.GroupRows.{GroupRows}
-use Rattle.registration_slab.specs.Slab.{is_in}
 
 -- what each row of each column has, a code or none
 abbrev pub CodeColumns : Type 0
 CodeColumns = List (List (Option ℕ))
-
-abbrev pub columns_of : List GroupRows → CodeColumns
-columns_of groups = map (λ (g : GroupRows). g.entries) groups
 
 -- the number of a column among those of all sheets, which is 0 for the first one
 abbrev pub number_of : ℕ → ℕ → ℕ
@@ -30,14 +24,6 @@ code_in_row column row = slice_index_or column (row - 1) None
 
 abbrev pub code_of : CodeColumns → Place → Option ℕ
 code_of columns q = code_in_row (slice_index_or columns (number_of q.sheet q.col) []) q.row
-
--- the group has the row
-abbrev pub has_row : Group → ℕ → Bool
-has_row group row = nat_le group.first row && nat_le row group.last
-
--- the cell is one of those of a run that the group has
-abbrev pub is_in_group : Rows → Group → Place → Bool
-is_in_group rows group q = is_in rows q && has_row group q.row
 
 -- what a formula with that code reads in a cell
 abbrev pub areas_by_code : Codes → NameEntries → Place → ℕ → List Rectangle
