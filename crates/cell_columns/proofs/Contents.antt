@@ -25,7 +25,7 @@ insert_is_put (e ∷ es) cell content =
       | Greater ↦ ap (λ t. e ∷ t) (insert_is_put es cell content)
     ]
 
-find_inserted : (es : CellEntries) (cell q : Place) (content : Content) → find place_cmp q (insert_entry place_cmp es cell content) ≡ cond (eq_by_cmp place_cmp q cell) (Some content) (find place_cmp q es)
+pub find_inserted : (es : CellEntries) (cell q : Place) (content : Content) → find place_cmp q (insert_entry place_cmp es cell content) ≡ cond (eq_by_cmp place_cmp q cell) (Some content) (find place_cmp q es)
 find_inserted es cell q content = ap (find place_cmp q) (insert_is_put es cell content) ∙ find-put place_cmp places_total q cell content es
 
 abbrev nothing : Option Content
@@ -35,7 +35,7 @@ none : (b : Bool) → cond b nothing nothing ≡ nothing
 none true = refl
 none false = refl
 
-find_removed : (es : CellEntries) (cell q : Place) → is_sorted place_cmp es ≡ true → find place_cmp q (remove_entry (is_at (place_cmp cell)) es) ≡ cond (eq_by_cmp place_cmp q cell) None (find place_cmp q es)
+pub find_removed : (es : CellEntries) (cell q : Place) → is_sorted place_cmp es ≡ true → find place_cmp q (remove_entry (is_at (place_cmp cell)) es) ≡ cond (eq_by_cmp place_cmp q cell) None (find place_cmp q es)
 find_removed [] cell q sorted = sym (none (eq_by_cmp place_cmp q cell))
 find_removed (e ∷ es) cell q sorted =
     let parts = both_true (below_all place_cmp e.0 es) (is_sorted place_cmp es) sorted in

@@ -1,21 +1,18 @@
 -- The rows of a column are its cells, downwards, and its groups and blocks are those of its cells.
-use Rattle.std.proofs.Common.{◌≡◌, ℕ, zero, suc, ◌+◌, ◌-◌, ◌*◌, ◌≤◌, ◌<◌, ◌==◌, List, [], ◌∷◌, length, map, Option, Some, None, refl, sym, ap, subst, ◌∙◌, arith}
+use Rattle.std.proofs.Common.{◌≡◌, ℕ, zero, suc, ◌+◌, ◌-◌, ◌*◌, ◌<◌, ◌==◌, List, [], ◌∷◌, length, map, Option, Some, refl, sym, ap, subst, ◌∙◌, arith}
 use Rattle.std.specs.Prelude.{Bool, slice_index_or}
 use Rattle.std.specs.Option.{option_map}
 use Rattle.std.specs.List.{All, AllByRecursion, range_with_len}
 use Rattle.calc_addr.specs.declared.cell.TheConstants.{LAST_COL, LAST_ROW}
 use Rattle.calc_addr.specs.Places.{IsPlace, IsRows, Place, Rows}
-use Rattle.calc_model.specs.declared.tree.Tree.{Tree}
-use Rattle.formula_code.specs.Codes.{AreApart, Codes, IsCodeAt, IsLive, form_at, tree_at}
-use Rattle.formula_code.specs.Relative.{relative}
+use Rattle.formula_code.specs.Codes.{AreApart, Codes, IsCodeAt, IsLive, form_at}
 use Rattle.run_tables.specs.Runs.{Run, runs_of}
 use Rattle.formula_groups.specs.Groups.{a_group, groups_of}
-use Rattle.block_column.specs.declared.block.Kind.{Kind}
 use Rattle.block_column.specs.declared.slot.Slot.{Slot}
 use Rattle.block_column.specs.declared.slot.Slot.TheVariants as slot
 use Rattle.block_column.specs.Kinds.{kind_of, same_kind}
 use Rattle.block_column.specs.Blocks.{a_block, blocks_of, kind_key}
-use Rattle.cell_columns.specs.Cells.{Column, cells_of, cells_only, column_at, column_number, content_of, slot_at}
+use Rattle.cell_columns.specs.Cells.{Column, cells_of, cells_only, column_at, content_of, slot_at}
 use Rattle.cell_columns.specs.ColumnRuns.{AllLie, IsSheetColumn, blocks_in, cells_down, form_in, form_of, groups_in, kind_in, kind_of_content, rows_of_block, rows_of_group, rows_of_run, same_tree}
 use Rattle.cell_columns.specs.Sheets.{AreSheets}
 use Rattle.cell_columns.specs.Uses.{code_in, codes_in}

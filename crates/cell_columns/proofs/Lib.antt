@@ -19,6 +19,8 @@
 -- Looked: what is lent of a cell's content.
 -- Listed: cells that are listed with what they hold.
 -- Told: the cells of columns are those of a book, which slots decide.
+-- Restored: cells that are emptied and set again. SetShifted: cells that are set after a change of rows.
+-- RowsChanged: the formulas that don't keep their codes. RowsKept: cells that stay in their sheet.
 -- RunRows: runs lie in their column. FormRuns: runs of codes are runs of forms. Downwards: the rows of a column and its cells.
 pub mod Orders
 pub mod Found
@@ -58,3 +60,7 @@ pub mod BookShifted
 pub mod ColumnsMoved
 pub mod Gathering
 pub mod Visited
+pub mod Restored
+pub mod RowsChanged
+pub mod SetShifted
+pub mod RowsKept

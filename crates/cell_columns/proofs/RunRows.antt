@@ -1,7 +1,7 @@
 -- The maximal runs of a column lie in its rows.
-use Rattle.std.proofs.Common.{◌≡◌, ℕ, ◌+◌, ◌≤◌, ◌<◌, Bool, true, false, cond, List, [], ◌∷◌, length, map, Option, Some, None, arith}
-use Rattle.std.specs.List.{All, AllByRecursion}
-use Rattle.run_tables.specs.Runs.{Run, meet, runs_from, runs_of, touches}
+use Rattle.std.proofs.Common.{ℕ, ◌+◌, ◌≤◌, ◌<◌, Bool, true, false, cond, List, [], ◌∷◌, length, map, Option, Some, None, arith}
+use Rattle.std.specs.List.{AllByRecursion}
+use Rattle.run_tables.specs.Runs.{Run, meet, runs_from, touches}
 
 -- the run's rows lie from one row up to another
 pub record LieIn {K : Type 0} (p behind : ℕ) (r : Run K) : Type 0 where

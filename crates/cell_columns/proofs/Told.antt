@@ -132,7 +132,7 @@ module _ (codes : Codes) (columns : List Column) (sheets : AreSheets codes colum
     names_in_limit = omega arith;
   }
 
-entry_found : (es : CellEntries) → list_all is_cell_entry es ≡ true → (q : Place) (c : Content) → find place_cmp q es ≡ Some c → (is_place q ≡ true) × (is_content c ≡ true)
+pub entry_found : (es : CellEntries) → list_all is_cell_entry es ≡ true → (q : Place) (c : Content) → find place_cmp q es ≡ Some c → (is_place q ≡ true) × (is_content c ≡ true)
 entry_found [] h q c is = cc
 entry_found (e ∷ es) h q c is =
     let parts = both_true (is_cell_entry e) (list_all is_cell_entry es) h in

@@ -1,5 +1,5 @@
 -- The rows of a column's groups are those of its formulas.
-use Rattle.std.proofs.Common.{◌≡◌, ℕ, suc, zero, ◌+◌, ◌-◌, ◌≤◌, ◌<◌, ◌==◌, ◌&&◌, nat_le, Bool, true, false, cond, List, [], ◌∷◌, length, map, Option, Some, None, unwrap_or, ◌⊎◌, inl, inr, refl, sym, ap, subst, ◌∙◌, arith}
+use Rattle.std.proofs.Common.{◌≡◌, ℕ, suc, zero, ◌+◌, ◌-◌, ◌≤◌, ◌<◌, ◌==◌, ◌&&◌, nat_le, Bool, true, false, cond, List, [], ◌∷◌, length, map, Some, unwrap_or, ◌⊎◌, inl, inr, refl, sym, ap, subst, ◌∙◌, arith}
 use Rattle.std.specs.Prelude.{slice_get, slice_index_or}
 use Rattle.std.specs.Bool.{Decides}
 use Rattle.std.specs.List.{list_all}
@@ -21,9 +21,9 @@ use Rattle.block_column.specs.declared.slot.Slot.TheVariants as slot
 use Rattle.block_column.specs.Kinds.{is_filled}
 use Rattle.cell_columns.specs.declared.columns.TheConstants.{COLUMNS}
 use Rattle.cell_columns.specs.Cells.{Column, cell_in, cells_of, cells_only, column_at, column_number, content_of, slot_at}
-use Rattle.cell_columns.specs.Gathered.{AllKeepOrAre, Among, Formulas, Gathers, InColumns, InGroups, InRows, KeepsCode}
+use Rattle.cell_columns.specs.Gathered.{AllKeepOrAre, Among, Formulas, Gathers, InColumns, InGroups}
 use Rattle.cell_columns.specs.Sheets.{AreSheets}
-use Rattle.cell_columns.specs.Shifted.{AllStayIn, KeepsForm, StaysIn}
+use Rattle.cell_columns.specs.Shifted.{AllStayIn, KeepsForm}
 use Rattle.cell_columns.specs.Uses.{code_in, codes_in}
 use Rattle.cell_columns.proofs.Edited.{number_in}
 use Rattle.cell_columns.proofs.Groups.{codes_at}

@@ -12,6 +12,7 @@ mod making;
 mod reading;
 mod release;
 mod resetting;
+mod row_edits;
 mod shifting;
 mod slots;
 mod walking;

@@ -7,7 +7,7 @@ use Rattle.formula_groups.specs.GroupRows.{GroupRows}
 use Rattle.formula_groups.specs.Groups.{groups_of}
 use Rattle.cell_columns.specs.Cells.{cells_only, column_at}
 use Rattle.cell_columns.specs.ColumnRuns.{AllLie, groups_in, rows_of_group, rows_of_run}
-use Rattle.cell_columns.specs.Lent.{codes_of, slots_of}
+use Rattle.cell_columns.specs.Lent.{slots_of}
 use Rattle.cell_columns.specs.Uses.{code_in, codes_in}
 use Rattle.cell_columns.proofs.Downwards.{column_of, full, groups_down, groups_lie, seen_at}
 use Rattle.cell_columns.proofs.Groups.{codes_at}

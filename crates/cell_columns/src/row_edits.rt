@@ -1,0 +1,124 @@
+//! Rows of a sheet that are inserted or deleted.
+ghost use Rattle.std.specs.Prelude.{◌≡◌, ◌≤◌, ℕ, false, true, IfOk, OnOk, length, take};
+ghost use Rattle.std.specs.List.{list_all};
+ghost use Rattle.calc_addr.specs.declared.cell.TheConstants.{LAST_SHEET};
+ghost use Rattle.calc_model.specs.Books.{content_at, is_formula};
+ghost use Rattle.calc_model.specs.Changes.{IsChange, IsShift};
+ghost use Rattle.calc_model.specs.RowEdits.{cells_after_deletion, cells_after_insertion, is_pushed_out};
+ghost use Rattle.calc_model.specs.declared.limits.TheConstants.{MOST_CELLS};
+ghost use Rattle.cell_columns.specs.Cells.{cells_only};
+ghost use Rattle.cell_columns.specs.Looks.{with_contents};
+ghost use Rattle.cell_columns.specs.Reset.{with_all};
+ghost use Rattle.cell_columns.specs.Shifted.{AllStayIn, sheet_of, shifted};
+
+use crate::changing::home_after;
+use crate::columns::CellColumns;
+use calc_addr::{Area, Cell, LAST_COL, NoMemory};
+use calc_model::{Change, Content};
+use std::alloc::Global;
+
+impl CellColumns {
+    /// Inserts rows of a sheet at a place. It is linear in the blocks and groups of the sheet's columns and
+    /// in the formulas whose relative forms change. Where memory is refused, nothing is said of the cells
+    /// that are left.
+    pub fn insert_rows(
+        &mut self,
+        alloc: Global,
+        sheet: u8,
+        place: u32,
+        count: u32,
+    ) -> Result<(), NoMemory>
+        requires sheet { sheet ≤ LAST_SHEET }
+        requires rows { IsShift place count }
+        requires inside { is_pushed_out sheet place count self.old ≡ false }
+        ensures { OnOk result (self.new ≡ cells_after_insertion sheet place count self.old) }
+    {
+        let change = Change::Inserted {
+            sheet,
+            place,
+            count,
+        };
+        self.change_rows(alloc, change)
+    }
+
+    /// Deletes rows of a sheet from a place on, at the same cost and with that of emptying them. Where memory
+    /// is refused, nothing is said of the cells that are left.
+    pub fn delete_rows(
+        &mut self,
+        alloc: Global,
+        sheet: u8,
+        place: u32,
+        count: u32,
+    ) -> Result<(), NoMemory>
+        requires sheet { sheet ≤ LAST_SHEET }
+        requires rows { IsShift place count }
+        ensures { OnOk result (self.new ≡ cells_after_deletion sheet place count self.old) }
+    {
+        let change = Change::Deleted {
+            sheet,
+            place,
+            count,
+        };
+        self.are_book();
+        self.clear(Area {
+            sheet,
+            first_col: 1,
+            last_col: LAST_COL,
+            first_row: place,
+            last_row: place + count - 1,
+        })?;
+        self.change_rows(alloc, change)
+    }
+
+    /// Changes the rows of a sheet, where each cell that isn't empty stays. The formulas that don't keep
+    /// their codes are taken out before the columns go, and are put back as they become.
+    fn change_rows(&mut self, alloc: Global, change: Change) -> Result<(), NoMemory>
+        requires change { IsChange change }
+        requires sheet { sheet_of change ≤ LAST_SHEET }
+        requires stay { AllStayIn change self.old }
+        ensures { OnOk result (self.new ≡ shifted change self.old) }
+    {
+        self.are_book();
+        let cells = self.changing(alloc, change)?;
+        let entries = self.changed(alloc, change, &cells)?;
+        self.empty_cells(alloc, &cells)?;
+        self.shift(change)?;
+        self.set_all(alloc, &entries)
+    }
+
+    /// Formulas as a change of rows leaves them, at the cells to which they go.
+    #[tactic(auto, unfolding(crate::specs::Shifted::shifted))]
+    fn changed(
+        &self,
+        alloc: Global,
+        change: Change,
+        cells: &[Cell],
+    ) -> Result<Vec<(Cell, Content)>, NoMemory>
+        requires change { IsChange change }
+        requires stay { AllStayIn change self.now }
+        requires formulas { list_all (λ q. is_formula (content_at (cells_only self.now) q)) cells.now ≡ true }
+        ensures { IfOk result (λ entries.
+            entries.items ≡ shifted change (with_contents self.now cells.now)) }
+    {
+        self.are_book();
+        let mut entries = Vec::new(alloc);
+        for cell in cells {
+            let content = self.content(alloc, *cell)?;
+            let changed = content.changed(alloc, change, *cell)?;
+            entries.push((home_after(change, *cell), changed))?;
+        }
+        Ok(entries)
+    }
+
+    /// Puts contents into cells, one after the other.
+    fn set_all(&mut self, alloc: Global, entries: &[(Cell, Content)]) -> Result<(), NoMemory>
+        requires room { (k : ℕ) → k ≤ length entries.now
+            → length (with_all self.old (take k entries.now)) ≤ MOST_CELLS }
+        ensures { OnOk result (self.new ≡ with_all self.old entries.now) }
+    {
+        for (cell, content) in entries {
+            self.set(alloc, *cell, content)?;
+        }
+        Ok(())
+    }
+}
