@@ -14,8 +14,3 @@ pub first_entry : (column : GeneratedColumn) (row rows : ℕ) → row < rows + 1
 first_entry column row rows within =
     let more : rows + 1 - row ≡ suc (rows + 1 - (row + 1)) = omega arith in
     ap (λ n. entries column (range_with_len row n)) more
-
-pub no_entry : (column : GeneratedColumn) (row rows : ℕ) → rows + 1 ≤ row → entries_of column row rows ≡ []
-no_entry column row rows past =
-    let none : rows + 1 - row ≡ 0 = omega arith in
-    ap (λ n. entries column (range_with_len row n)) none

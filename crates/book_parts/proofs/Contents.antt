@@ -22,17 +22,6 @@ together cells names is named = record {
   names_in_limit = named.in_limit;
 }
 
--- the cells of a book are those of one without names
-pub cells_alone : (book : Book) → IsBook book → IsBook (cells_only book.cells)
-cells_alone book is = record {
-  cells_in_order = is.cells_in_order;
-  cells_held = is.cells_held;
-  cells_in_limit = is.cells_in_limit;
-  names_in_order = refl;
-  names_spelled = refl;
-  names_in_limit = omega arith;
-}
-
 pub some_weaker : {T : Type 0} {P Q : T → Type 0} (o : Option T) → ((x : T) → P x → Q x) → IfSome o P → IfSome o Q
 some_weaker None more none = none
 some_weaker (Some x) more is = more x is

@@ -12,7 +12,6 @@ pub mod Inserted
 pub mod Copied
 -- what an edit leaves in the cells that it doesn't touch
 pub mod LeftCells
-pub mod Shifted
 -- cells that are pushed out of the sheet
 mod PushedOut
 -- the generated book

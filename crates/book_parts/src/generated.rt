@@ -1,11 +1,13 @@
 //! The cells of the generated book.
-ghost use Rattle.std.specs.Prelude.{◌≡◌, ◌≤◌, ◌+◌, pos, length, IfOk, OnOk, []};
+ghost use Rattle.std.specs.Prelude.{◌≡◌, ◌≤◌, ◌<◌, ◌+◌, pos, true, length, IfOk, OnOk, []};
+ghost use Rattle.std.specs.BTreeMap.{insert_entry};
+ghost use Rattle.calc_addr.specs.Places.{place_cmp};
+ghost use Rattle.calc_model.specs.Books.{is_held};
 ghost use Rattle.calc_addr.specs.References.{IsSpanned};
 ghost use Rattle.calc_model.specs.CellEdits.{with_entries};
 ghost use Rattle.calc_model.specs.GeneratedBook.{cell_reference, column_reference, doubled, generated_entries, running_sum, unmarked, whole, window_sum};
 ghost use Rattle.book_parts.specs.GeneratedColumns.{content_of, entries_of, first_of, place_of};
 
-use crate::rows::add;
 use calc_addr::{Area, Cell, Marks, NoMemory, Ref, Span};
 use calc_model::{
     Constant, Content, Formula, MOST_CELLS, MOST_GENERATED_ROWS, Op, Text, Tree, Value,
@@ -46,6 +48,22 @@ pub(crate) fn generated(alloc: Global, start: u32, rows: u32) -> Result<CellColu
     put_column(alloc, &mut cells, GeneratedColumn::RunningSums, rows)?;
     put_column(alloc, &mut cells, GeneratedColumn::WindowSums, rows)?;
     Ok(cells)
+}
+
+/// Puts a content that isn't empty into a cell.
+fn add(
+    alloc: Global,
+    cells: &mut CellColumns,
+    cell: Cell,
+    content: &Content,
+) -> Result<(), NoMemory>
+    requires held { is_held content.now ≡ true }
+    requires room { length cells.old < MOST_CELLS }
+    ensures cells { OnOk result (cells.new
+        ≡ insert_entry place_cmp cells.old cell content.now) }
+    ensures longer { OnOk result (length cells.new ≤ length cells.old + 1) }
+{
+    cells.set(alloc, cell, content)
 }
 
 /// Puts the cells of a column among the cells.

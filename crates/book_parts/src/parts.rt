@@ -19,7 +19,7 @@ ghost use Rattle.book_parts.specs.Runs.{AreEmpty, IsCodedIn, moved_entries};
 
 use crate::copies::{area_at, copied_entries};
 use crate::generated::generated;
-use crate::rows::{Rows, deleted, inserted, is_pushed_out};
+use crate::rows::{Rows, is_pushed_out};
 use block_column::{Block, SlotRef};
 use calc_addr::{Area, Cell, LAST_ROW, LAST_SHEET, NoMemory};
 use calc_model::{Content, Looked, MOST_CELLS, MOST_GENERATED_ROWS, NameTable, Text};
@@ -325,8 +325,8 @@ impl BookParts {
         is_pushed_out(&self.cells, rows)
     }
 
-    /// Inserts rows into a sheet. It makes all columns anew, and costs what the setting of each cell does.
-    /// Where memory is refused, all is as before.
+    /// Inserts rows into a sheet. It is linear in the blocks and groups of the sheet's columns, in the formulas
+    /// whose relative forms change, and in the names.
     pub fn insert_rows(
         &mut self,
         alloc: Global,
@@ -343,21 +343,15 @@ impl BookParts {
             (self.new.names ≡ names_after_insertion sheet place count self.old.names) }
         ensures was_book { IsBook self.old }
         ensures book { IsBook self.new }
-        ensures kept { OnErr result (self.new ≡ self.old) }
     {
-        let rows = Rows {
-            sheet,
-            place,
-            count,
-        };
         self.are_book();
-        self.cells = inserted(alloc, &self.cells, rows)?;
+        let inserted = self.cells.insert_rows(alloc, sheet, place, count);
         self.names.insert_rows(sheet, place, count);
         self.are_book();
-        Ok(())
+        inserted
     }
 
-    /// Deletes rows of a sheet, at the same cost. Where memory is refused, all is as before.
+    /// Deletes rows of a sheet, at the same cost and with that of emptying them.
     pub fn delete_rows(
         &mut self,
         alloc: Global,
@@ -373,18 +367,12 @@ impl BookParts {
             (self.new.names ≡ names_after_deletion sheet place count self.old.names) }
         ensures was_book { IsBook self.old }
         ensures book { IsBook self.new }
-        ensures kept { OnErr result (self.new ≡ self.old) }
     {
-        let rows = Rows {
-            sheet,
-            place,
-            count,
-        };
         self.are_book();
-        self.cells = deleted(alloc, &self.cells, rows)?;
+        let deleted = self.cells.delete_rows(alloc, sheet, place, count);
         self.names.delete_rows(sheet, place, count);
         self.are_book();
-        Ok(())
+        deleted
     }
 
     /// Gives the name that area. A new name moves those behind it in the order of names.

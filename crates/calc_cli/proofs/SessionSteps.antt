@@ -12,7 +12,7 @@ use Rattle.calc_model.specs.declared.edit.EditCause.{EditCause}
 use Rattle.calc_script.specs.declared.command.Cause.TheVariants as causes
 use Rattle.calc_watch.specs.Reports.{Watched, watched}
 use Rattle.calc_watch.specs.declared.report.Report.{Report}
-use Rattle.workbook.specs.Workbook.{IsRefused, Made, State}
+use Rattle.workbook.specs.Workbook.{IsRefused, Made, State, mended, stale_of}
 use Rattle.calc_cli.specs.declared.replies.Reply.{Reply}
 use Rattle.calc_cli.specs.Output.{Answer, Session, edit_text, edited, refusal_text, with_watcher}
 use Rattle.calc_cli.specs.Sessions.{Replies, SessionState, session_of}
@@ -26,7 +26,8 @@ edited_session before after number edit text made is =
       refused = false;
     })
 
-pub refused_session : (before : SessionState) (after : State) (number : ℕ) (edit : Edit) (cause : EditCause) (text : List ℕ) → IsRefused before.workbook edit cause after → text ≡ refusal_text number (causes.Edit cause) → edited (session_of before) number edit (step before.workbook.book edit) ≡ record { session = session_of (record before { workbook = after }); text = text; refused = true }
+pub refused_session : (before : SessionState) (after : State) (number : ℕ) (edit : Edit) (cause : EditCause) (text : List ℕ) → IsRefused (mended before.workbook) edit cause after → text ≡ refusal_text number (causes.Edit cause) → edited (session_of before) number edit (step before.workbook.book edit) ≡ record { session = session_of (record before { workbook = after }); text = text; refused = true }
+unfolding stale_of
 refused_session before after number edit cause text refused is =
     ap (edited (session_of before) number edit) refused.step
     ∙ (λ i. record { session = session_of (record before { workbook = sym refused.kept i }); text = sym is i; refused = true })

@@ -108,7 +108,10 @@ fn answer_script<K: Sink, W: Watcher>(
         (length (calculated field_of (length stock.items) book script.now).written)
         (K.faults sink.old) (K.faults sink.new) }
 {
-    let mut session = Session::new(alloc, Workbook::load(alloc, book), stock);
+    let Ok(workbook) = Workbook::load(alloc, book) else {
+        return NO_MEMORY;
+    };
+    let mut session = Session::new(alloc, workbook, stock);
     match write_output(alloc, &mut session, script, sink) {
         Ok(false) => DONE,
         Ok(true) => LINE_REFUSED,

@@ -68,17 +68,3 @@ module _ (codes : Codes) (names : NameEntries) (groups : List GroupRows) (coded 
     reads_there q o =
         under (is_in run q) (option_map (areas_by_code codes names q) (code_in_row (codes_of gs) q.row)) (coded_areas codes names (columns_of groups) q) o
         (λ h. ap (λ es. option_map (areas_by_code codes names q) (code_in_row es q.row)) codes_are ∙ ap (option_map (areas_by_code codes names q)) (sym (code_here q h)))
-
-  -- a run of one row
-  module _ (one : run.first ≡ run.last) (found : Option ℕ) (code : slice_get column.entries (run.first - 1) ≡ Some found) where
-    found_here : (q : Place) → is_in run q ≡ true → code_of (columns_of groups) q ≡ found
-    found_here q h =
-        let at = lies_in run q h in
-        let row : q.row ≡ run.first = omega (arith, at.from, at.to, one) in
-        code_here q h ∙ ap (code_in_row column.entries) row ∙ get_or_from_slice_get column.entries (run.first - 1) found None code
-
-    pub row_reads : (q : Place) (o : Option (List Rectangle)) → cond (is_in run q) (option_map (areas_by_code codes names q) found) o ≡ cond (is_in run q) (coded_areas codes names (columns_of groups) q) o
-    row_reads q o = under (is_in run q) (option_map (areas_by_code codes names q) found) (coded_areas codes names (columns_of groups) q) o (λ h. ap (option_map (areas_by_code codes names q)) (sym (found_here q h)))
-
-    pub row_coded : (id : ℕ) → found ≡ Some id → (q : Place) → is_in run q ≡ true → IsCodeAt codes id q
-    row_coded id there q h = coded.coded q (is_place_of run q valid h) id (found_here q h ∙ there)

@@ -73,17 +73,6 @@ free_stays false o is = refl
 pub single_is : (cell q : Place) → is_in (record { sheet = cell.sheet; col = cell.col; first = cell.row; last = cell.row }) q ≡ covers (single cell) q
 single_is cell q = grind (arith, nat_tests)
 
-pub single_lies : (p : Place) → IsPlace p → IsRectangle (single p)
-single_lies p is = record {
-  sheet_in = is.sheet_in;
-  cols_from = is.col_from;
-  cols_in_order = omega arith;
-  cols_to = is.col_to;
-  rows_from = is.row_from;
-  rows_in_order = omega arith;
-  rows_to = is.row_to;
-}
-
 -- the formulas of a run with one code, by the ears of the first one
 module _ (codes : Codes) (names : NameEntries) (run : Rows) (id : ℕ) (rows : IsRows run) (coded : (q : Place) → is_in run q ≡ true → IsCodeAt codes id q) where
   pub first_coded : IsCodeAt codes id (first_cell run)

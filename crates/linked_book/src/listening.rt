@@ -1,14 +1,15 @@
 //! The hub before and after its book changes.
 ghost use Rattle.std.specs.Prelude.{◌≡◌, false, true, OnErr, OnOk};
 ghost use Rattle.calc_addr.specs.Places.{single};
-ghost use Rattle.calc_model.specs.Books.{Book, content_at};
+ghost use Rattle.calc_model.specs.Books.{Book, IsBook, content_at};
 ghost use Rattle.listener_hub.specs.Hubs.{areas_read};
 ghost use Rattle.formula_listeners.specs.Held.{HoldsOutside, HoldsReads};
+ghost use Rattle.formula_listeners.specs.Renamed.{AgreeElsewhere};
 
 use book_parts::BookParts;
 use calc_addr::{Area, Cell, NoMemory};
-use calc_model::Content;
-use formula_listeners::{listen_area, listen_cell, reads_go_with_cells};
+use calc_model::{Content, Text};
+use formula_listeners::{listen_area, listen_cell, listen_users, reads_go_with_cells};
 use listener_hub::Hub;
 use std::alloc::Global;
 
@@ -66,6 +67,25 @@ pub(crate) fn listen(
 {
     let coded = parts.coded();
     listen_area(alloc, hub, coded.codes, coded.groups, parts, area)
+}
+
+/// Registers the formulas that use a name anew, after it got an area or went.
+pub(crate) fn listen_again(
+    alloc: Global,
+    hub: &mut Hub,
+    parts: &BookParts,
+    name: &Text,
+) -> Result<(), NoMemory>
+    requires { hub.old.spent ≡ false }
+    ensures held { OnOk result ((book : Book) → IsBook book → parts.now.cells ≡ book.cells
+        → AgreeElsewhere name.now book.names parts.now.names
+        → HoldsReads (areas_read hub.old) book → HoldsReads (areas_read hub.new) parts.now) }
+    ensures ready { OnOk result (hub.new.spent ≡ false) }
+    ensures spent { OnErr result (hub.new.spent ≡ true) }
+{
+    let coded = parts.coded();
+    let bytes = name.as_str().as_bytes();
+    listen_users(alloc, hub, coded.codes, coded.groups, parts, bytes)
 }
 
 /// Leaves the hub spent where memory was refused in the midst of an edit of its book.

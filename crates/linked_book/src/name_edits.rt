@@ -6,10 +6,11 @@ ghost use Rattle.calc_model.specs.Tokens.{is_name};
 ghost use Rattle.calc_names.specs.NameFaults.{IsOneTooMany};
 
 use crate::linked::LinkedBook;
+use crate::listening::listen_again;
 use calc_addr::Area;
 use calc_model::Text;
 use calc_names::NameFault;
-use formula_listeners::{listen_users, names_agree_elsewhere};
+use formula_listeners::names_agree_elsewhere;
 use std::alloc::Global;
 
 impl LinkedBook {
@@ -37,9 +38,7 @@ impl LinkedBook {
         self.parts.are_book();
         names_agree_elsewhere();
         self.parts.define_name(name, area)?;
-        let coded = self.parts.coded();
-        let bytes = name.as_str().as_bytes();
-        listen_users(alloc, &mut self.hub, coded.codes, coded.groups, &self.parts, bytes)?;
+        listen_again(alloc, &mut self.hub, &self.parts, name)?;
         Ok(())
     }
 
@@ -58,9 +57,7 @@ impl LinkedBook {
         self.parts.are_book();
         names_agree_elsewhere();
         self.parts.remove_name(name)?;
-        let coded = self.parts.coded();
-        let bytes = name.as_str().as_bytes();
-        listen_users(alloc, &mut self.hub, coded.codes, coded.groups, &self.parts, bytes)?;
+        listen_again(alloc, &mut self.hub, &self.parts, name)?;
         Ok(())
     }
 }

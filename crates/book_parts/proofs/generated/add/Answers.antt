@@ -3,7 +3,7 @@ use Rattle.std.proofs.lemmas.Result.{on_ok_weaker}
 use Rattle.calc_model.proofs.BooksKept.{longer_by_one}
 use Rattle.calc_model.specs.CellEdits.{CellEntries}
 use Rattle.book_parts.proofs.Copied.{put_one}
-use Rattle.book_parts.proofs.rows.add.Goals as goal
+use Rattle.book_parts.proofs.generated.add.Goals as goal
 
 pub set-requires : goal.set-requires
 set-requires c = record { room = omega (arith, c.requires.room, longer_by_one c.args.cells.now c.args.cell c.args.content.now) }
