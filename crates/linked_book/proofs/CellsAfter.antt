@@ -1,5 +1,5 @@
 -- What cells hold after one is set, and after an area is emptied.
-use Rattle.std.proofs.Common.{◌≡◌, Bool, true, false, not, cond, None, unwrap_or, refl, sym, ap, subst, ◌∙◌}
+use Rattle.std.proofs.Common.{◌≡◌, Bool, true, false, not, cond, None, unwrap_or, refl, sym, ap, subst, ◌∙◌, arith}
 use Rattle.std.specs.BTreeMap.{is_at}
 use Rattle.std.specs.Ordering.{eq_by_cmp}
 use Rattle.std.specs.FinMap.Entries.{find, is_sorted}
@@ -25,8 +25,8 @@ covers_itself cell = grind (arith, nat_tests)
 apart : (cell q : Place) → covers (single cell) q ≡ false → eq_by_cmp place_cmp cell q ≡ false
 apart cell q outside =
     false_from_ne_true _ (λ same.
-        let inside : covers (single cell) q ≡ true = subst (λ p. covers (single cell) p ≡ true) (same_places cell q same) (covers_itself cell) in
-        cc)
+    let inside : covers (single cell) q ≡ true = subst (λ p. covers (single cell) p ≡ true) (same_places cell q same) (covers_itself cell) in
+    cc)
 
 pub set_elsewhere : (before after : Book) (cell : Place) (content : Content) → after.cells ≡ with_content before.cells cell content → (q : Place) → covers (single cell) q ≡ false → content_at after q ≡ content_at before q
 set_elsewhere before after cell content same q outside = set_leaves before after cell content same q (apart cell q outside)

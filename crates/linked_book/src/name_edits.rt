@@ -16,12 +16,7 @@ use std::alloc::Global;
 impl LinkedBook {
     /// Gives the name that area. A new name moves those behind it in the order of names, and the columns with
     /// a formula that uses the name are registered anew.
-    pub fn define_name(
-        &mut self,
-        alloc: Global,
-        name: &Text,
-        area: Area,
-    ) -> Result<(), NameFault>
+    pub fn define_name(&mut self, alloc: Global, name: &Text, area: Area) -> Result<(), NameFault>
         requires { self.old.spent ≡ false }
         ensures cells { self.new.book.cells ≡ self.old.book.cells }
         ensures names { OnOk result
@@ -38,8 +33,10 @@ impl LinkedBook {
         self.parts.are_book();
         names_agree_elsewhere();
         self.parts.define_name(name, area)?;
-        listen_again(alloc, &mut self.hub, &self.parts, name)?;
-        Ok(())
+        match listen_again(alloc, &mut self.hub, &self.parts, name) {
+            Ok(()) => Ok(()),
+            Err(refused) => Err(NameFault::NoMemory(refused)),
+        }
     }
 
     /// Takes a name away, and registers the columns with a formula that uses it anew.
@@ -57,7 +54,9 @@ impl LinkedBook {
         self.parts.are_book();
         names_agree_elsewhere();
         self.parts.remove_name(name)?;
-        listen_again(alloc, &mut self.hub, &self.parts, name)?;
-        Ok(())
+        match listen_again(alloc, &mut self.hub, &self.parts, name) {
+            Ok(()) => Ok(()),
+            Err(refused) => Err(NameFault::NoMemory(refused)),
+        }
     }
 }

@@ -22,3 +22,5 @@ pub mod Fresh
 pub mod Leavings
 -- that every edit leaves the cells that it doesn't touch
 pub mod EditsLeave
+-- a workbook whose hub was made anew
+pub mod Mended

@@ -1,5 +1,5 @@
 //! Copies and fills.
-ghost use Rattle.std.specs.Prelude.{◌≡◌, ◌≤◌, length, true, IsErrOf, OnOk};
+ghost use Rattle.std.specs.Prelude.{◌≡◌, ◌≤◌, length, false, true, IsErrOf, OnOk};
 ghost use Rattle.calc_addr.specs.ValidReferences.{is_rectangle};
 ghost use Rattle.calc_model.specs.Books.{content_at};
 ghost use Rattle.calc_model.specs.CellEdits.{after_copy, after_fill, area_at};

@@ -1,5 +1,5 @@
 //! Edits of names, and the generated book.
-ghost use Rattle.std.specs.Prelude.{◌≡◌, ◌≤◌, true, IsErrOf, OnOk};
+ghost use Rattle.std.specs.Prelude.{◌≡◌, ◌≤◌, false, true, IsErrOf, OnOk};
 ghost use Rattle.calc_model.specs.declared.edit.EditCause.{EditCause};
 ghost use Rattle.workbook.specs.Workbook.{IsRefused, Made};
 

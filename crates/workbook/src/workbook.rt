@@ -283,8 +283,9 @@ impl Workbook {
     pub fn stale_count(&self, alloc: Global) -> Result<usize, NoMemory>
         ensures { IfOk result (λ count. count ≡ count_in self.now.book (stale_of self.now)) }
     {
-        let found = reached(alloc, self.book.parts(), &self.touched)?;
-        count_found(alloc, self.book.parts(), &found)
+        let parts = self.book.parts();
+        let found = reached(alloc, parts, &self.touched)?;
+        count_found(alloc, parts, &found)
     }
 
     /// Evaluates all formulas from scratch. None is stale afterwards, and every cell has its value. Where

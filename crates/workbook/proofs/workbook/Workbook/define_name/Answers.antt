@@ -2,9 +2,9 @@ use Rattle.std.proofs.Common.{◌≡◌, ap, refl, subst, ◌∙◌}
 use Rattle.std.specs.Prelude.{Err}
 use Rattle.calc_model.specs.declared.edit.Edit.TheVariants.{Name}
 use Rattle.calc_model.specs.declared.edit.EditCause.TheVariants.{NamesFull}
-use Rattle.calc_model.specs.Books.{Book}
 use Rattle.calc_model.specs.Step.{step}
 use Rattle.calc_model.specs.Tokens.{is_name}
+use Rattle.linked_book.specs.Linked.{Linked}
 use Rattle.workbook.specs.Workbook.{Made, State}
 use Rattle.workbook.proofs.NameChanges.{defined_stale, not_false}
 use Rattle.workbook.proofs.Steps.{define_full, define_step}
@@ -22,6 +22,7 @@ returns-in-Ok-add_name-clause-done c =
       book = c.in-Ok.ensures.book;
       stale = defined_stale before after name area c.in-Ok.ensures.cells c.in-Ok.ensures.names c.add_name.ensures.cells c.in-Ok-add_name.ensures.names;
       alive = refl;
+      ready = c.in-Ok.ensures.ready;
       results = refl;
     })
 
@@ -33,5 +34,5 @@ returns-in-Err-Full-clause-refused c = λ cause is.
     record {
       step = subst (λ (state : State). step state.book (Name c.args.name.now c.args.area) ≡ Err cause) c.self.view_is
           (define_full before.book c.args.name.now c.args.area full.spelled full.new full.full ∙ ap Err same);
-      kept = ap (λ (book : Book). record before { book = book }) c.in-Err-Full.ensures.kept ∙ c.self.view_is;
+      kept = ap (λ (l : Linked). record before { book = l.book; spent = l.spent }) (c.in-Err-Full.ensures.full_keeps (ap Err c.in-Err-Full.field-0-is)) ∙ c.self.view_is;
     }

@@ -17,5 +17,6 @@ returns-in-Ok-clause-done c =
       book = c.clear.ensures.book;
       stale = stale_more before after (covers c.args.area) c.clear.ensures.names (clear_leaves before.book after.book c.args.area c.in-Ok.ensures.cells) (ap (λ (parts : Parts). parts.names) c.in_ok-push_area.ensures.parts) c.in_ok-push_area.ensures.touched;
       alive = refl;
+      ready = c.in-Ok.ensures.ready;
       results = refl;
     })

@@ -1,4 +1,4 @@
-use Rattle.std.proofs.Common.{◌≡◌, ◌||◌, ap, subst, sym, ◌∙◌}
+use Rattle.std.proofs.Common.{◌≡◌, ◌||◌, false, ap, subst, sym, ◌∙◌}
 use Rattle.calc_addr.specs.Places.{Place, covers}
 use Rattle.calc_model.specs.Books.{Book, IsBook}
 use Rattle.calc_model.specs.NamedAreas.{names_after_deletion}
@@ -22,17 +22,18 @@ returns-clause-done c =
     let touched : after.touched.names ≡ before.touched.names = ap (λ (state : State). state.touched.names) c.self.view_is ∙ c.in_ok-touch_rows.ensures.names in
     let joined = subst (λ (parts : Parts). (q : Place) → lies_in parts q ≡ (lies_in before.touched q || (covers (rows_from sheet place) q || reads_any before.book (is_changed_by_deletion sheet place count) q))) (sym (ap (λ (state : State). state.touched) c.self.view_is)) c.in_ok-touch_rows.ensures.touched in
     on_ok_both c.delete_rows.result
-    (λ made names_made.
-    let named : after.book.names ≡ names_after_deletion sheet place count before.book.names = names_made ∙ ap (λ (b : Book). names_after_deletion sheet place count b.names) book in
+    (λ made (others : (after.book.names ≡ names_after_deletion sheet place count c.self.inside.book.book.names) × (after.spent ≡ false)).
+    let named : after.book.names ≡ names_after_deletion sheet place count before.book.names = others.0 ∙ ap (λ (b : Book). names_after_deletion sheet place count b.names) book in
     let cells : after.book.cells ≡ cells_after_deletion sheet place count before.book.cells = made ∙ ap (λ (b : Book). cells_after_deletion sheet place count b.cells) book in
     record {
       step = delete_step before.book sheet place count after.book c.requires.rows cells named;
       book = c.delete_rows.ensures.book;
       stale = deletion_stale before after sheet place count was c.delete_rows.ensures.book touched cells named joined;
+      ready = others.1;
       alive = ap (λ (state : State). state.dead) c.self.view_is ∙ c.in_ok-touch_rows.ensures.alive;
       results = ap (λ (state : State). state.results) c.self.view_is ∙ c.in_ok-touch_rows.ensures.results;
     })
-    c.delete_rows.ensures.cells c.delete_rows.ensures.names
+    c.delete_rows.ensures.cells (on_ok_both c.delete_rows.result (λ names ready. (names, ready)) c.delete_rows.ensures.names c.delete_rows.ensures.ready)
 
 pub returns-clause-was_book : goal.returns-clause-was_book
 returns-clause-was_book c =

@@ -23,17 +23,18 @@ returns-clause-done c =
     let touched : after.touched.names ≡ before.touched.names = ap (λ (state : State). state.touched.names) c.self.view_is ∙ c.in_ok-touch_rows.ensures.names in
     let joined = subst (λ (parts : Parts). (q : Place) → lies_in parts q ≡ (lies_in before.touched q || (covers (rows_from sheet place) q || reads_any before.book (is_changed_by_insertion sheet place count) q))) (sym (ap (λ (state : State). state.touched) c.self.view_is)) c.in_ok-touch_rows.ensures.touched in
     on_ok_both c.insert_rows.result
-    (λ made names_made.
-    let named : after.book.names ≡ names_after_insertion sheet place count before.book.names = names_made ∙ ap (λ (b : Book). names_after_insertion sheet place count b.names) book in
+    (λ made (others : (after.book.names ≡ names_after_insertion sheet place count c.self.inside.book.book.names) × (after.spent ≡ false)).
+    let named : after.book.names ≡ names_after_insertion sheet place count before.book.names = others.0 ∙ ap (λ (b : Book). names_after_insertion sheet place count b.names) book in
     let cells : after.book.cells ≡ cells_after_insertion sheet place count before.book.cells = made ∙ ap (λ (b : Book). cells_after_insertion sheet place count b.cells) book in
     record {
       step = insert_step before.book sheet place count after.book c.requires.rows inside cells named;
       book = c.insert_rows.ensures.book;
       stale = insertion_stale before after sheet place count was c.insert_rows.ensures.book touched cells named joined;
+      ready = others.1;
       alive = ap (λ (state : State). state.dead) c.self.view_is ∙ c.in_ok-touch_rows.ensures.alive;
       results = ap (λ (state : State). state.results) c.self.view_is ∙ c.in_ok-touch_rows.ensures.results;
     })
-    c.insert_rows.ensures.cells c.insert_rows.ensures.names
+    c.insert_rows.ensures.cells (on_ok_both c.insert_rows.result (λ names ready. (names, ready)) c.insert_rows.ensures.names c.insert_rows.ensures.ready)
 
 pub returns-clause-was_book : goal.returns-clause-was_book
 returns-clause-was_book c =

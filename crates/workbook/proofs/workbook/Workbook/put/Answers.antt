@@ -1,11 +1,11 @@
-use Rattle.std.proofs.Common.{◌≤◌, length, ap, refl, subst, sym, ◌∙◌}
+use Rattle.std.proofs.Common.{◌≤◌, false, length, ap, refl, subst, sym, ◌∙◌}
 use Rattle.std.specs.Ordering.{eq_by_cmp}
 use Rattle.calc_addr.specs.Places.{place_cmp}
 use Rattle.calc_model.specs.declared.edit.Edit.TheVariants.{Set}
 use Rattle.calc_model.specs.declared.limits.TheConstants.{MOST_CELLS}
 use Rattle.calc_model.specs.Books.{Book, with_content}
 use Rattle.workbook.specs.Touched.{Parts}
-use Rattle.workbook.specs.Workbook.{Made, State}
+use Rattle.workbook.specs.Workbook.{Made, State, mended}
 use Rattle.book_parts.proofs.LeftCells.{set_leaves}
 use Rattle.workbook.proofs.Sets.{taken_back}
 use Rattle.workbook.proofs.Staleness.{stale_more}
@@ -24,12 +24,13 @@ returns-in-Ok-clause-done c =
       stale = stale_more before after (eq_by_cmp place_cmp c.args.cell) c.set.ensures.names
           (set_leaves before.book after.book c.args.cell c.args.content.now cells) (ap (λ (parts : Parts). parts.names) c.in_ok-added.ensures.parts) c.in_ok-added.ensures.touched;
       alive = refl;
+      ready = c.in-Ok.ensures.ready;
       results = refl;
     })
 
 pub returns-then-added-clause-kept : goal.returns-then-added-clause-kept
 returns-then-added-clause-kept c =
     let back = taken_back c.self.inside.touched c.add_cell.new.self c.remove_cell.new.self c.args.cell c.in_ok-added.ensures.parts c.remove_cell.ensures (sym c.if-added.true ∙ c.in_ok-added.ensures.added) in
-    ap (λ (book : Book). record { book = book; results = c.self.inside.results; touched = c.remove_cell.new.self; dead = c.self.inside.dead }) c.in-Err.ensures.kept
-    ∙ ap (λ (touched : Parts). record { book = c.self.inside.book.book; spent = c.self.inside.book.spent; results = c.self.inside.results; touched = touched; dead = c.self.inside.dead }) back
-    ∙ c.self.view_is
+    ap (λ (book : Book). record { book = book; spent = false; results = c.self.inside.results; touched = c.remove_cell.new.self; dead = c.self.inside.dead }) c.in-Err.ensures.kept
+    ∙ ap (λ (touched : Parts). record { book = c.self.inside.book.book; spent = false; results = c.self.inside.results; touched = touched; dead = c.self.inside.dead }) back
+    ∙ ap mended c.self.view_is

@@ -17,5 +17,6 @@ returns-in-Ok-add_name-clause-done c =
       book = c.in-Ok.ensures.book;
       stale = removed_stale before after name c.in-Ok.ensures.cells c.in-Ok.ensures.names c.add_name.ensures.cells c.in-Ok-add_name.ensures.names;
       alive = refl;
+      ready = c.in-Ok.ensures.ready;
       results = refl;
     })
