@@ -51,6 +51,7 @@ pub mod Listed
 pub mod RunRows
 pub mod FormRuns
 pub mod CodedCells
+pub mod ColumnSlots
 pub mod Downwards
 pub mod RowParts
 pub mod RowsMoved

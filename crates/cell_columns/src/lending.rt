@@ -4,11 +4,12 @@ ghost use Rattle.calc_addr.specs.declared.cell.TheConstants.{LAST_COL};
 ghost use Rattle.formula_code.specs.Coded.{AreCoded, AreFormulasOf};
 ghost use Rattle.formula_groups.specs.GroupRows.{columns_of};
 ghost use Rattle.cell_columns.specs.Cells.{cells_only};
+ghost use Rattle.cell_columns.specs.Looks.{AreSlotsOf};
 ghost use Rattle.cell_columns.specs.ColumnRuns.{AllLie, IsSheetColumn, blocks_in, groups_in, rows_of_block, rows_of_group, rows_of_run};
 
 use crate::cells::column_number;
 use crate::columns::{COLUMNS, CellColumns};
-use block_column::Block;
+use block_column::{Block, BlockColumn};
 use calc_addr::Cell;
 use formula_code::{CodeTable, forms_are_trees};
 use formula_groups::{Group, GroupColumn};
@@ -51,6 +52,14 @@ impl CellColumns {
         ensures rows { AllLie (map (rows_of_block sheet col) result.now) }
     {
         self.columns[number_of(sheet, col)].blocks()
+    }
+
+    /// What the rows of a column hold. It takes no time.
+    pub fn column(&self, sheet: u8, col: u16) -> &BlockColumn
+        requires { IsSheetColumn sheet col }
+        ensures { AreSlotsOf (cells_only self.now) sheet col result.now.slots }
+    {
+        &self.columns[number_of(sheet, col)]
     }
 
     /// The codes of all formulas. It takes no time.

@@ -28,8 +28,8 @@ module _ (names : NameEntries) (cell : Place) (tree : Tree) where
   pub single_reads : (codes : Codes) (id : ℕ) → tree_at codes id cell ≡ tree → (q : Place) (o : Option (List Rectangle)) → cond (is_in (row_of cell) q) (Some (areas_by_code codes names q id)) o ≡ cond (covers (single cell) q) read o
   single_reads codes id is q o =
       under (is_in (row_of cell) q) (Some (areas_by_code codes names q id)) read o (λ h.
-          ap (λ p. Some (areas_by_code codes names p id)) (the_cell cell q h)
-          ∙ ap (λ t. Some (areas cell (entry_named names) t)) is)
+      ap (λ p. Some (areas_by_code codes names p id)) (the_cell cell q h)
+      ∙ ap (λ t. Some (areas cell (entry_named names) t)) is)
       ∙ ap (λ b. cond b read o) (single_is cell q)
 
   -- a hub that held all but the cell, and holds its formula now
