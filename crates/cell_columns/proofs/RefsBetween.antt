@@ -12,18 +12,13 @@ use Rattle.calc_model.specs.declared.fault.Fault.TheVariants.{BadRef}
 use Rattle.calc_model.specs.declared.tree.Tree.TheVariants as t
 use Rattle.calc_model.specs.Changes.{changed}
 use Rattle.calc_model.specs.TreeShifts.{on_sheet, or_deleted}
+use Rattle.calc_model.proofs.Areas.{both_true}
+use Rattle.calc_model.proofs.EntriesKept.{both_so}
 use Rattle.calc_model.proofs.Replaced.{replaced-Bad, replaced-Ref}
 use Rattle.formula_code.specs.Relative.{absolute_reference, from_distance, has_cols, has_rows, relative, relative_reference, to_distance}
 use Rattle.cell_columns.specs.Shifted.{IsRowChange, StaysIn, goes, place_of, sheet_of}
 use Rattle.cell_columns.specs.Cells.{cell_in}
 use Rattle.cell_columns.proofs.RowsBetween.{Along, AllGo, AreBetween, Lie, both_go, deleted_between, inserted_between, deleted_rows, goes_along, inserted_rows, rows_test}
-
-both_so : (b c : Bool) → b ≡ true → c ≡ true → (b && c) ≡ true
-both_so b c h k = ap (λ x. x && c) h ∙ k
-
-both_true : (b c : Bool) → (b && c) ≡ true → (b ≡ true) × (c ≡ true)
-both_true true c h = (refl, h)
-both_true false c h = cc
 
 -- the relative form of a reference with other rows, at another cell
 abbrev pub rows_of : Place → Place → Reference → Option (ℕ × ℕ) → Option Reference

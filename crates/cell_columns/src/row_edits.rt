@@ -19,9 +19,9 @@ use calc_model::{Change, Content};
 use std::alloc::Global;
 
 impl CellColumns {
-    /// Inserts rows of a sheet at a place. It is linear in the blocks and groups of the sheet's columns and
-    /// in the formulas whose relative forms change. Where memory is refused, nothing is said of the cells
-    /// that are left.
+    /// Inserts rows of a sheet at a place. It is linear in the blocks of the sheet's columns and in the groups
+    /// of all columns, and sets each formula anew whose relative form changes. Where memory is refused, nothing
+    /// is said of the cells that are left.
     pub fn insert_rows(
         &mut self,
         alloc: Global,
