@@ -97,7 +97,8 @@ impl CellColumns {
     ) -> Result<Vec<(Cell, Content)>, NoMemory>
         requires change { IsChange change }
         requires stay { AllStayIn change self.now }
-        requires formulas { list_all (λ q. is_formula (content_at (cells_only self.now) q)) cells.now ≡ true }
+        requires formulas { list_all (λ q. is_formula (content_at (cells_only self.now) q))
+            cells.now ≡ true }
         ensures { IfOk result (λ entries.
             entries.items ≡ shifted change (with_contents self.now cells.now)) }
     {
