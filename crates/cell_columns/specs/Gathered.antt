@@ -1,5 +1,5 @@
 -- The formulas of groups, and those of them that don't keep their codes with a change of rows.
-use Rattle.std.specs.Prelude.{◌≡◌, ◌≤◌, ◌<◌, ◌+◌, ℕ, min, Bool, true, List, [], ◌∷◌, ◌⊎◌, Option, slice_index_or}
+use Rattle.std.specs.Prelude.{◌≡◌, ◌≤◌, ◌<◌, ◌+◌, ◌-◌, ℕ, min, Bool, true, List, [], ◌∷◌, ◌⊎◌, Option, slice_index_or}
 use Rattle.std.specs.List.{list_all}
 use Rattle.calc_addr.specs.declared.cell.TheConstants.{LAST_ROW}
 use Rattle.calc_addr.specs.Places.{IsPlace, Place}
@@ -19,10 +19,6 @@ use Rattle.cell_columns.specs.Shifted.{KeepsForm, StaysIn, goes, tree_after}
 abbrev pub Among : Place → List Place → Type 0
 Among q [] = ⊥
 Among q (p ∷ ps) = (p ≡ q) ⊎ Among q ps
-
--- one cell, with one code
-abbrev pub IsFormula : Place → ℕ → Place → ℕ → Type 0
-IsFormula home code q id = (q ≡ home) × (id ≡ code)
 
 -- a cell of some rows of a column, whose formula has the code
 pub record InRows (number first behind code : ℕ) (q : Place) (id : ℕ) : Type 0 where
@@ -52,6 +48,9 @@ pub record Formulas (codes : Codes) (change : Change) (q : Place) (id : ℕ) : T
   pub at : IsCodeAt codes id q
   pub stays : StaysIn change q
 
+abbrev pub AreFormulas : Codes → Change → (Place → ℕ → Type 0) → Type 0
+AreFormulas codes change visited = (q : Place) (id : ℕ) → visited q id → Formulas codes change q id
+
 -- the code serves the changed formula at the cell to which its cell goes
 abbrev pub KeepsCode : Codes → Change → ℕ → Place → Type 0
 KeepsCode codes change id q = relative (goes change q) (tree_after change q (tree_at codes id q)) ≡ form_at codes id
@@ -61,6 +60,20 @@ pub record Gathers (codes : Codes) (change : Change) (visited : Place → ℕ �
   pub kept : (q : Place) → Among q old → Among q new
   pub told : (q : Place) (id : ℕ) → visited q id → KeepsCode codes change id q ⊎ Among q new
   pub only : (test : Place → Bool) → ((q : Place) (id : ℕ) → visited q id → test q ≡ true) → list_all test old ≡ true → list_all test new ≡ true
+
+-- Of rows with one code those in front of one were visited, and the formula in it, if it is one of them, keeps its code.
+pub record IsFront (codes : Codes) (change : Change) (number code first behind : ℕ) (old new : List Place) (row : ℕ) : Type 0 where
+  pub from : first ≤ row
+  pub to : row ≤ behind
+  pub gathers : Gathers codes change (InRows number first row code) old new
+  pub keeps : row < behind → KeepsCode codes change code (cell_in number row)
+
+-- Those from one on were visited, and the formula above it, if it is one of them, keeps its code.
+pub record IsBack (codes : Codes) (change : Change) (number code first behind : ℕ) (old new : List Place) (row : ℕ) : Type 0 where
+  pub from : first ≤ row
+  pub to : row ≤ behind
+  pub gathers : Gathers codes change (InRows number row behind code) old new
+  pub keeps : first < row → KeepsCode codes change code (cell_in number (row - 1))
 
 -- The relative form of each formula is the same afterwards, or its cell is one of these.
 abbrev pub AllKeepOrAre : Change → CellEntries → List Place → Type 0

@@ -1,5 +1,5 @@
 -- Where the cells of a book go with a change of rows, and what becomes of them.
-use Rattle.std.specs.Prelude.{◌≡◌, ◌≤◌, ◌<◌, ◌-◌, ℕ, true, List, length, map, ◌⊎◌}
+use Rattle.std.specs.Prelude.{◌≡◌, ◌≤◌, ◌<◌, ◌-◌, nat_le, ℕ, true, List, length, map, ◌⊎◌}
 use Rattle.calc_addr.specs.Places.{IsPlace, Place}
 use Rattle.calc_model.specs.declared.change.Change.{Change}
 use Rattle.calc_model.specs.declared.change.Change.TheVariants.{Inserted, Deleted}
@@ -7,7 +7,7 @@ use Rattle.calc_model.specs.declared.content.Content.TheVariants.{Formula}
 use Rattle.calc_model.specs.declared.tree.Tree.{Tree}
 use Rattle.calc_model.specs.Books.{content_at, is_held}
 use Rattle.calc_model.specs.CellEdits.{CellEntries}
-use Rattle.calc_model.specs.Changes.{changed}
+use Rattle.calc_model.specs.Changes.{IsShift, changed}
 use Rattle.calc_model.specs.Homes.{StaysDeleted, StaysInserted, home_after_deletion, home_after_insertion}
 use Rattle.calc_model.specs.RowEdits.{shifted_entry}
 use Rattle.calc_model.specs.TreeShifts.{replaced}
@@ -21,6 +21,22 @@ abbrev pub sheet_of : Change → ℕ
 sheet_of (Inserted sheet place count) = sheet
 sheet_of (Deleted sheet place count) = sheet
 sheet_of _ = 0
+
+-- rows of a sheet are inserted or deleted
+abbrev pub IsRowChange : Change → Type 0
+IsRowChange (Inserted sheet place count) = IsShift place count
+IsRowChange (Deleted sheet place count) = IsShift place count
+IsRowChange _ = ⊥
+
+-- the first of those rows
+abbrev pub place_of : Change → ℕ
+place_of (Inserted sheet place count) = place
+place_of (Deleted sheet place count) = place
+place_of _ = 0
+
+-- The rows from one up to another lie all above that row, or all from it on.
+abbrev pub AreOneSide : Change → ℕ → ℕ → Type 0
+AreOneSide change first behind = (x y : ℕ) → first ≤ x → x < behind → first ≤ y → y < behind → nat_le (place_of change) x ≡ nat_le (place_of change) y
 
 -- the cell to which a cell goes
 abbrev pub goes : Change → Place → Place

@@ -1,14 +1,12 @@
 //! The formulas that don't keep their codes with a change of rows.
-ghost use Rattle.std.specs.Prelude.{◌≡◌, ◌≤◌, ◌<◌, ℕ, true, IfOk, OnOk, length};
+ghost use Rattle.std.specs.Prelude.{◌≡◌, ◌≤◌, ◌<◌, true, IfOk, IsTrue, OnOk, length};
 ghost use Rattle.std.specs.List.{list_all};
 ghost use Rattle.calc_model.specs.Books.{content_at, is_formula};
 ghost use Rattle.cell_columns.specs.Cells.{cells_only};
-ghost use Rattle.calc_addr.specs.Places.{Place};
 ghost use Rattle.calc_model.specs.Changes.{IsChange};
-ghost use Rattle.formula_code.specs.Codes.{IsCodeAt};
-ghost use Rattle.cell_columns.specs.Gathered.{AllKeepOrAre, Formulas, Gathers, InColumns, InGroups, InRows, IsFormula, behind_of};
+ghost use Rattle.cell_columns.specs.Gathered.{AllKeepOrAre, AreFormulas, Formulas, Gathers, InColumns, InGroups, InRows, IsBack, IsFront, KeepsCode, behind_of};
 ghost use Rattle.cell_columns.specs.Lent.{codes_of};
-ghost use Rattle.cell_columns.specs.Shifted.{AllStayIn, StaysIn, goes};
+ghost use Rattle.cell_columns.specs.Shifted.{AllStayIn, AreOneSide, IsRowChange, StaysIn, goes, place_of};
 
 use crate::columns::{COLUMNS, CellColumns};
 use crate::walking::cell_in;
@@ -39,30 +37,115 @@ pub(crate) fn home_after(change: Change, home: Cell) -> Cell
     }
 }
 
-/// Appends a formula's cell, unless the formula keeps its code.
-fn push_formula(
+/// The first row of those that are inserted or deleted.
+fn place_of(change: Change) -> u32
+    ensures { result ≡ place_of change }
+{
+    match change {
+        Change::Inserted { place, .. } => place,
+        Change::Deleted { place, .. } => place,
+        _ => 0,
+    }
+}
+
+/// Whether a formula keeps its code. False says nothing.
+fn keeps(codes: &CodeTable, id: CodeId, home: Cell, change: Change) -> bool
+    requires change { IsRowChange change }
+    requires formula { Formulas codes.now change home id }
+    ensures { IsTrue result → KeepsCode codes.now change id home }
+{
+    codes.stays(id, home, change, home_after(change, home))
+}
+
+/// Appends the cells of rows of a column that have one code, downwards as far as their formulas don't keep
+/// it. Gives the row behind those.
+fn push_down(
     codes: &CodeTable,
-    id: CodeId,
-    home: Cell,
+    number: usize,
+    code: CodeId,
+    first: u32,
+    behind: u32,
+    change: Change,
+    out: &mut Vec<Cell>,
+) -> Result<u32, NoMemory>
+    requires change { IsRowChange change }
+    requires number { number < COLUMNS }
+    requires order { first ≤ behind }
+    requires formulas { AreFormulas codes.now change (InRows number first behind code) }
+    ensures { IfOk result
+        (IsFront codes.now change number code first behind out.old.items out.new.items) }
+{
+    let mut row = first;
+    while row < behind {
+        let home = cell_in(number, row);
+        if keeps(codes, code, home, change) {
+            return Ok(row);
+        }
+        out.push(home)?;
+        row += 1;
+    }
+    Ok(row)
+}
+
+/// The same upwards. Gives the first row of those.
+fn push_up(
+    codes: &CodeTable,
+    number: usize,
+    code: CodeId,
+    first: u32,
+    behind: u32,
+    change: Change,
+    out: &mut Vec<Cell>,
+) -> Result<u32, NoMemory>
+    requires change { IsRowChange change }
+    requires number { number < COLUMNS }
+    requires order { first ≤ behind }
+    requires formulas { AreFormulas codes.now change (InRows number first behind code) }
+    ensures { IfOk result
+        (IsBack codes.now change number code first behind out.old.items out.new.items) }
+{
+    let mut row = behind;
+    while first < row {
+        let home = cell_in(number, row - 1);
+        if keeps(codes, code, home, change) {
+            return Ok(row);
+        }
+        out.push(home)?;
+        row -= 1;
+    }
+    Ok(row)
+}
+
+/// Appends the cells of rows on one side of the change, with one code, whose formulas don't keep it. Formulas
+/// between two that keep it do so too, but for the last row, whose area may end at the last row of the sheet.
+fn push_side(
+    codes: &CodeTable,
+    number: usize,
+    code: CodeId,
+    first: u32,
+    behind: u32,
     change: Change,
     out: &mut Vec<Cell>,
 ) -> Result<(), NoMemory>
-    requires change { IsChange change }
-    requires at { IsCodeAt codes.now id home }
-    requires stays { StaysIn change home }
+    requires change { IsRowChange change }
+    requires number { number < COLUMNS }
+    requires order { first ≤ behind }
+    requires side { AreOneSide change first behind }
+    requires formulas { AreFormulas codes.now change (InRows number first behind code) }
     ensures { OnOk result
-        (Gathers codes.now change (IsFormula home id) out.old.items out.new.items) }
+        (Gathers codes.now change (InRows number first behind code) out.old.items out.new.items) }
 {
-    let to = home_after(change, home);
-    if codes.stays(id, home, change, to) {
+    let kept = push_down(codes, number, code, first, behind, change, out)?;
+    if behind - kept <= 1 {
         return Ok(());
     }
-    out.push(home)?;
+    push_down(codes, number, code, behind - 1, behind, change, out)?;
+    push_up(codes, number, code, kept + 1, behind - 1, change, out)?;
     Ok(())
 }
 
-/// Appends the cells of a group whose formulas don't keep their code. Linear in its rows and the nodes of its
-/// formula.
+/// Appends the cells of a group whose formulas don't keep their code. Linear in those, and in the nodes of
+/// the group's formula.
 fn push_group(
     codes: &CodeTable,
     number: usize,
@@ -70,11 +153,10 @@ fn push_group(
     change: Change,
     out: &mut Vec<Cell>,
 ) -> Result<(), NoMemory>
-    requires change { IsChange change }
+    requires change { IsRowChange change }
     requires number { number < COLUMNS }
-    requires formulas { (q : Place) (id : ℕ)
-        → InRows number group.first (behind_of group) group.code q id
-        → Formulas codes.now change q id }
+    requires formulas { AreFormulas codes.now change
+        (InRows number group.first (behind_of group) group.code) }
     ensures { OnOk result (Gathers codes.now change
         (InRows number group.first (behind_of group) group.code) out.old.items out.new.items) }
 {
@@ -82,11 +164,9 @@ fn push_group(
     if behind < group.first {
         return Ok(());
     }
-    for row in group.first..behind {
-        let home = cell_in(number, row);
-        push_formula(codes, group.code, home, change, out)?;
-    }
-    Ok(())
+    let middle = place_of(change).max(group.first).min(behind);
+    push_side(codes, number, group.code, group.first, middle, change, out)?;
+    push_side(codes, number, group.code, middle, behind, change, out)
 }
 
 /// Appends those of some groups of a column.
@@ -97,10 +177,9 @@ fn push_groups(
     change: Change,
     out: &mut Vec<Cell>,
 ) -> Result<(), NoMemory>
-    requires change { IsChange change }
+    requires change { IsRowChange change }
     requires number { number < COLUMNS }
-    requires formulas { (q : Place) (id : ℕ) → InGroups number groups.now q id
-        → Formulas codes.now change q id }
+    requires formulas { AreFormulas codes.now change (InGroups number groups.now) }
     ensures { OnOk result
         (Gathers codes.now change (InGroups number groups.now) out.old.items out.new.items) }
 {
@@ -117,10 +196,9 @@ pub(crate) fn push_changing(
     change: Change,
     out: &mut Vec<Cell>,
 ) -> Result<(), NoMemory>
-    requires change { IsChange change }
+    requires change { IsRowChange change }
     requires all { length groups.now ≡ COLUMNS }
-    requires formulas { (q : Place) (id : ℕ) → InColumns (codes_of groups.now) COLUMNS q id
-        → Formulas codes.now change q id }
+    requires formulas { AreFormulas codes.now change (InColumns (codes_of groups.now) COLUMNS) }
     ensures { OnOk result (Gathers codes.now change (InColumns (codes_of groups.now) COLUMNS)
         out.old.items out.new.items) }
 {
@@ -131,10 +209,10 @@ pub(crate) fn push_changing(
 }
 
 impl CellColumns {
-    /// The cells of the formulas that don't keep their codes with a change of rows. Linear in the nodes of
-    /// all formulas.
+    /// The cells of the formulas that don't keep their codes with a change of rows. Linear in those
+    /// cells, and in the nodes of each group's formula.
     pub(crate) fn changing(&self, alloc: Global, change: Change) -> Result<Vec<Cell>, NoMemory>
-        requires change { IsChange change }
+        requires change { IsRowChange change }
         requires stay { AllStayIn change self.now }
         ensures formulas { IfOk result (λ cells.
             list_all (λ q. is_formula (content_at (cells_only self.now) q)) cells.items ≡ true) }

@@ -11,7 +11,6 @@ mod looking;
 mod making;
 mod reading;
 mod release;
-mod resetting;
 mod row_edits;
 mod shifting;
 mod slots;
