@@ -21,7 +21,6 @@
 -- Told: the cells of columns are those of a book, which slots decide.
 -- Restored: cells that are emptied and set again. SetShifted: cells that are set after a change of rows.
 -- RowsChanged: the formulas that don't keep their codes. RowsKept: cells that stay in their sheet.
--- RowsBetween, RefsBetween, FormsBetween: what keeps at two rows keeps between them. SidesGathered: rows that are gathered from both ends.
 -- RunRows: runs lie in their column. FormRuns: runs of codes are runs of forms. Downwards: the rows of a column and its cells.
 pub mod Orders
 pub mod Found
@@ -59,13 +58,8 @@ pub mod SheetShifted
 pub mod ColumnShifted
 pub mod BookShifted
 pub mod ColumnsMoved
-pub mod Gathering
 pub mod Visited
 pub mod Restored
 pub mod RowsChanged
 pub mod SetShifted
 pub mod RowsKept
-pub mod RowsBetween
-pub mod RefsBetween
-pub mod FormsBetween
-pub mod SidesGathered

@@ -16,6 +16,6 @@ mod shifting;
 mod slots;
 mod walking;
 
-pub use columns::{COLUMNS, CellColumns};
+pub use columns::CellColumns;
 pub use lending::CodedGroups;
 pub use looking::Coded;

@@ -10,12 +10,13 @@ ghost use Rattle.calc_model.specs.declared.limits.TheConstants.{MOST_CELLS};
 ghost use Rattle.cell_columns.specs.Cells.{cells_only};
 ghost use Rattle.cell_columns.specs.Looks.{with_contents};
 ghost use Rattle.cell_columns.specs.Reset.{emptied, with_all};
-ghost use Rattle.cell_columns.specs.Shifted.{AllStayIn, IsRowChange, sheet_of, shifted};
+ghost use Rattle.kept_codes.specs.RowChanges.{IsRowChange, sheet_of};
+ghost use Rattle.cell_columns.specs.Shifted.{AllStayIn, shifted};
 
-use crate::changing::home_after;
 use crate::columns::CellColumns;
 use calc_addr::{Area, Cell, LAST_COL, NoMemory};
 use calc_model::{Change, Content};
+use kept_codes::home_after;
 use std::alloc::Global;
 
 impl CellColumns {

@@ -26,9 +26,9 @@ use Rattle.formula_code.specs.declared.node.Node.TheVariants.{Number, Words, Bad
 use Rattle.formula_code.proofs.Forms.{nodes_of_tree}
 use Rattle.formula_code.proofs.NodeLists.{postfix-Bad, postfix-Binary, postfix-Call, postfix-Minus, postfix-Name, postfix-Number, postfix-Paren, postfix-Percent, postfix-Plus, postfix-Ref, postfix-Words}
 use Rattle.formula_code.proofs.StayingForms.{stays}
-use Rattle.cell_columns.specs.Cells.{cell_in}
-use Rattle.cell_columns.specs.Shifted.{IsRowChange, StaysIn, goes, place_of, tree_after}
-use Rattle.cell_columns.proofs.RefsBetween.{after_is, reference_after, reference_between}
+use Rattle.kept_codes.specs.Columns.{cell_in}
+use Rattle.kept_codes.specs.RowChanges.{IsRowChange, StaysIn, goes, place_of, tree_after}
+use Rattle.kept_codes.proofs.RefsBetween.{after_is, reference_after, reference_between}
 
 -- the node of what becomes of a reference
 abbrev leaf : Option Reference → Node

@@ -1,8 +1,8 @@
 use Rattle.std.proofs.Common.{◌≡◌, ◌+◌, ℕ, ap, subst, arith}
 use Rattle.std.proofs.lemmas.Result.{on_ok_weaker}
-use Rattle.cell_columns.specs.Gathered.{Gathers, InRows, behind_of}
-use Rattle.cell_columns.proofs.Gathering.{rows_then, some_formulas}
-use Rattle.cell_columns.proofs.changing.push_group.Goals as goal
+use Rattle.kept_codes.specs.Gathered.{Gathers, InRows, behind_of}
+use Rattle.kept_codes.proofs.Gathering.{rows_then, some_formulas}
+use Rattle.kept_codes.proofs.changing.push_group.Goals as goal
 
 pub push_side-requires-clause-formulas : goal.push_side-requires-clause-formulas
 push_side-requires-clause-formulas c =

@@ -4,16 +4,12 @@ use Rattle.std.specs.List.{list_all}
 use Rattle.calc_addr.specs.declared.cell.TheConstants.{LAST_ROW}
 use Rattle.calc_addr.specs.Places.{IsPlace, Place}
 use Rattle.calc_model.specs.declared.change.Change.{Change}
-use Rattle.calc_model.specs.declared.content.Content.TheVariants.{Formula}
-use Rattle.calc_model.specs.declared.tree.Tree.{Tree}
-use Rattle.calc_model.specs.Books.{content_at}
-use Rattle.calc_model.specs.CellEdits.{CellEntries}
 use Rattle.formula_code.specs.Codes.{Codes, IsCodeAt, form_at, tree_at}
 use Rattle.formula_code.specs.Relative.{relative}
 use Rattle.formula_groups.specs.declared.group.Group.{Group}
 use Rattle.formula_groups.specs.Groups.{groups_of}
-use Rattle.cell_columns.specs.Cells.{cell_in, cells_only}
-use Rattle.cell_columns.specs.Shifted.{KeepsForm, StaysIn, goes, tree_after}
+use Rattle.kept_codes.specs.Columns.{cell_in}
+use Rattle.kept_codes.specs.RowChanges.{StaysIn, goes, tree_after}
 
 -- the place is one of these
 abbrev pub Among : Place → List Place → Type 0
@@ -74,7 +70,3 @@ pub record IsBack (codes : Codes) (change : Change) (number code first behind : 
   pub to : row ≤ behind
   pub gathers : Gathers codes change (InRows number row behind code) old new
   pub keeps : first < row → KeepsCode codes change code (cell_in number (row - 1))
-
--- The relative form of each formula is the same afterwards, or its cell is one of these.
-abbrev pub AllKeepOrAre : Change → CellEntries → List Place → Type 0
-AllKeepOrAre change cells places = (q : Place) → IsPlace q → (tree : Tree) → content_at (cells_only cells) q ≡ Formula tree → KeepsForm change q tree ⊎ Among q places

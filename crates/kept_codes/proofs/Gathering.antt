@@ -10,8 +10,8 @@ use Rattle.calc_model.proofs.EntriesKept.{both_so}
 use Rattle.formula_code.specs.Codes.{Codes}
 use Rattle.formula_groups.specs.declared.group.Group.{Group}
 use Rattle.formula_groups.specs.Groups.{groups_of}
-use Rattle.cell_columns.specs.Cells.{cell_in}
-use Rattle.cell_columns.specs.Gathered.{Among, AreFormulas, Formulas, Gathers, InColumns, InGroups, InRows, KeepsCode, behind_of}
+use Rattle.kept_codes.specs.Columns.{cell_in}
+use Rattle.kept_codes.specs.Gathered.{Among, AreFormulas, Formulas, Gathers, InColumns, InGroups, InRows, KeepsCode, behind_of}
 
 among_more : (q p : Place) (ps : List Place) → Among q ps → Among q (ps ++ p ∷ [])
 among_more q p [] h = absurd h

@@ -1,6 +1,6 @@
 use Rattle.std.proofs.Common.{◌≤◌, ◌-◌}
-use Rattle.cell_columns.specs.Gathered.{Gathers, InRows}
-use Rattle.cell_columns.proofs.changing.push_down.Given as goal
+use Rattle.kept_codes.specs.Gathered.{Gathers, InRows}
+use Rattle.kept_codes.proofs.changing.push_down.Given as goal
 
 abbrev pub invariant-loop-row : goal.invariant-loop-row
 invariant-loop-row l =

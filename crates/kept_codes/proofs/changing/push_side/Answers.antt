@@ -1,7 +1,7 @@
 use Rattle.std.proofs.Common.{◌+◌, ◌-◌, arith}
-use Rattle.cell_columns.proofs.SidesGathered.{all_sides, none_left}
-use Rattle.cell_columns.proofs.Gathering.{some_formulas}
-use Rattle.cell_columns.proofs.changing.push_side.Goals as goal
+use Rattle.kept_codes.proofs.SidesGathered.{all_sides, none_left}
+use Rattle.kept_codes.proofs.Gathering.{some_formulas}
+use Rattle.kept_codes.proofs.changing.push_side.Goals as goal
 
 pub returns-then-behind-kept-le1 : goal.returns-then-behind-kept-le1
 returns-then-behind-kept-le1 c =

@@ -1,8 +1,8 @@
 use Rattle.std.proofs.Common.{◌+◌, ◌∷◌, ◌++◌, List, [], sym, ap, subst, ◌∙◌, arith}
 use Rattle.calc_addr.specs.Places.{Place}
-use Rattle.cell_columns.specs.Gathered.{Formulas, Gathers, InRows}
-use Rattle.cell_columns.proofs.Gathering.{a_formula, none_gathered, one_gathered, rows_then}
-use Rattle.cell_columns.proofs.changing.push_down.Goals as goal
+use Rattle.kept_codes.specs.Gathered.{Formulas, Gathers, InRows}
+use Rattle.kept_codes.proofs.Gathering.{a_formula, none_gathered, one_gathered, rows_then}
+use Rattle.kept_codes.proofs.changing.push_down.Goals as goal
 
 pub loop-row-init : goal.loop-row-init
 loop-row-init c = record { from = omega arith; to = c.requires.order; gathers = none_gathered c.args.codes.now c.args.change c.args.number c.args.code c.args.first c.args.out.now.items }

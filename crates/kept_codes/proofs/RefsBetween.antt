@@ -16,9 +16,9 @@ use Rattle.calc_model.proofs.Areas.{both_true}
 use Rattle.calc_model.proofs.EntriesKept.{both_so}
 use Rattle.calc_model.proofs.Replaced.{replaced-Bad, replaced-Ref}
 use Rattle.formula_code.specs.Relative.{absolute_reference, from_distance, has_cols, has_rows, relative, relative_reference, to_distance}
-use Rattle.cell_columns.specs.Shifted.{IsRowChange, StaysIn, goes, place_of, sheet_of}
-use Rattle.cell_columns.specs.Cells.{cell_in}
-use Rattle.cell_columns.proofs.RowsBetween.{Along, AllGo, AreBetween, Lie, both_go, deleted_between, inserted_between, deleted_rows, goes_along, inserted_rows, rows_test}
+use Rattle.kept_codes.specs.RowChanges.{IsRowChange, StaysIn, goes, place_of, sheet_of}
+use Rattle.kept_codes.specs.Columns.{cell_in}
+use Rattle.kept_codes.proofs.RowsBetween.{Along, AllGo, AreBetween, Lie, both_go, deleted_between, inserted_between, deleted_rows, goes_along, inserted_rows, rows_test}
 
 -- the relative form of a reference with other rows, at another cell
 abbrev pub rows_of : Place → Place → Reference → Option (ℕ × ℕ) → Option Reference

@@ -3,21 +3,13 @@ use Rattle.std.proofs.Common.{◌≡◌, ℕ, ◌+◌, ◌-◌, ◌≤◌, ◌<�
 use Rattle.std.proofs.lemmas.Bool.Decides.{nat_tests}
 use Rattle.calc_addr.specs.Places.{Place}
 use Rattle.calc_model.specs.declared.change.Change.{Change}
-use Rattle.calc_model.specs.declared.change.Change.TheVariants.{Stays, Moves, Inserted, Deleted}
-use Rattle.calc_model.specs.Changes.{IsChange}
 use Rattle.formula_code.specs.Codes.{Codes, form_at}
-use Rattle.cell_columns.specs.Cells.{cell_in}
-use Rattle.cell_columns.specs.Gathered.{AreFormulas, Formulas, Gathers, InRows, IsBack, IsFront, KeepsCode}
-use Rattle.cell_columns.specs.Shifted.{AreOneSide, IsRowChange}
-use Rattle.cell_columns.proofs.FormsBetween.{form_between}
-use Rattle.cell_columns.proofs.Gathering.{a_formula, gathers_kept, rows_before, rows_then}
-use Rattle.cell_columns.proofs.SheetShifted.{place_goes}
-
-pub is_change : (change : Change) → IsRowChange change → IsChange change
-is_change (Inserted sheet place count) rows = rows
-is_change (Deleted sheet place count) rows = rows
-is_change Stays rows = absurd rows
-is_change (Moves cols by) rows = absurd rows
+use Rattle.kept_codes.specs.Columns.{cell_in}
+use Rattle.kept_codes.specs.Gathered.{AreFormulas, Formulas, Gathers, InRows, IsBack, IsFront, KeepsCode}
+use Rattle.kept_codes.specs.RowChanges.{AreOneSide, IsRowChange}
+use Rattle.kept_codes.proofs.FormsBetween.{form_between}
+use Rattle.kept_codes.proofs.Gathering.{a_formula, gathers_kept, rows_before, rows_then}
+use Rattle.kept_codes.proofs.Going.{is_change, place_goes}
 
 module _ (codes : Codes) (change : Change) (rows : IsRowChange change) (number code first behind : ℕ) (side : AreOneSide change first behind) (formulas : AreFormulas codes change (InRows number first behind code)) where
   formula : (row : ℕ) → first ≤ row → row < behind → Formulas codes change (cell_in number row) code
