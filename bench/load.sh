@@ -35,7 +35,7 @@ awk 'BEGIN {
 
 cp "$top/HANDLES" "$work/"
 for crate in byte_cuts calc_num calc_addr calc_model formula_reader calc_names run_tables paged_list formula_groups \
-    block_column formula_code cell_columns book_parts calc_book; do
+    block_column formula_code kept_codes cell_columns book_parts calc_book; do
     mkdir -p "$work/crates/$crate"
     cp -r "$top/crates/$crate/"{src,specs,proofs} "$work/crates/$crate/"
     grep "^$crate:" "$top/crates.txt" >>"$work/crates.txt"

@@ -18,17 +18,20 @@ use Rattle.block_column.specs.declared.slot.Slot.TheVariants as slot
 use Rattle.block_column.specs.Kinds.{is_filled}
 use Rattle.block_column.specs.SlotRows.{SlotRows}
 use Rattle.formula_groups.specs.GroupRows.{GroupRows}
-use Rattle.cell_columns.specs.declared.columns.TheConstants.{COLUMNS}
-use Rattle.cell_columns.specs.Cells.{Column, cell_in, cells_below, cells_from, cells_of, column_at, column_number, content_of, slot_at}
+use Rattle.kept_codes.specs.declared.cells.TheConstants.{COLUMNS}
+use Rattle.kept_codes.specs.Columns.{cell_in}
+use Rattle.cell_columns.specs.Cells.{Column, cells_below, cells_from, cells_of, column_at, column_number, content_of, slot_at}
 use Rattle.cell_columns.specs.Lent.{AreColumns, codes_of, slots_of}
 use Rattle.cell_columns.specs.Sheets.{AreSheets}
-use Rattle.cell_columns.specs.Shifted.{AllKeepForms, AllStayIn, PartlyMoved, StaysIn, goes, rows_moved, sheet_of, shifted, tree_after}
+use Rattle.kept_codes.specs.RowChanges.{StaysIn, goes, sheet_of, tree_after}
+use Rattle.cell_columns.specs.Shifted.{AllKeepForms, AllStayIn, PartlyMoved, rows_moved, shifted}
 use Rattle.cell_columns.specs.Uses.{cell_of, codes_in, formula_of, summed, use_of}
 use Rattle.cell_columns.proofs.Counted.{counted}
 use Rattle.cell_columns.proofs.Edited.{IsFit, number_in}
 use Rattle.cell_columns.proofs.ColumnShifted.{off_sheet, on_sheet}
 use Rattle.cell_columns.proofs.RowParts.{Fits, Rows, row_at, shifted_append}
-use Rattle.cell_columns.proofs.SheetShifted.{MovesWell, all_fit, held_filled, place_goes, summed_alike}
+use Rattle.kept_codes.proofs.Going.{place_goes}
+use Rattle.cell_columns.proofs.SheetShifted.{MovesWell, all_fit, held_filled, summed_alike}
 use Rattle.cell_columns.proofs.Told.{holds, place_is}
 
 module _ (codes : Codes) (change : Change) (rows : IsChange change) (before : List Column) (was : AreSheets codes before) (all_stay : AllStayIn change (cells_of codes before)) (all_keep : AllKeepForms change (cells_of codes before)) where

@@ -14,7 +14,7 @@ use Rattle.formula_groups.specs.Groups.{groups_of}
 use Rattle.block_column.specs.declared.slot.Slot.TheVariants as slot
 use Rattle.block_column.specs.Kinds.{is_filled}
 use Rattle.block_column.specs.SlotRows.{SlotRows}
-use Rattle.cell_columns.specs.declared.columns.TheConstants.{COLUMNS}
+use Rattle.kept_codes.specs.declared.cells.TheConstants.{COLUMNS}
 use Rattle.cell_columns.specs.Cells.{Column, cells_of, column_at, rows_put, with_rows}
 use Rattle.cell_columns.specs.Emptied.{lies_in, without_rows}
 use Rattle.cell_columns.specs.Freed.{formulas_among, uses_among}

@@ -1,11 +1,10 @@
 -- The formulas of columns by their codes.
-use Rattle.std.proofs.Common.{◌≡◌, ℕ, ◌+◌, ◌-◌, ◌*◌, ◌<◌, List, [], length, map, Option, None, Some, refl, sym, ap, subst, ◌∙◌, arith}
+use Rattle.std.proofs.Common.{◌≡◌, ℕ, ◌-◌, List, length, map, Option, None, Some, refl, sym, ap, ◌∙◌, arith}
 use Rattle.std.specs.Prelude.{slice_index_or}
 use Rattle.std.specs.Option.{option_map}
-use Rattle.calc_addr.specs.declared.cell.TheConstants.{LAST_COL, LAST_ROW, LAST_SHEET}
-use Rattle.calc_addr.specs.Places.{IsPlace, Place}
+use Rattle.calc_addr.specs.Places.{Place}
 use Rattle.formula_code.specs.Coded.{AreCoded, AreFormulasOf, code_of, formula_in}
-use Rattle.formula_code.specs.Codes.{Codes, IsCodeAt, tree_at}
+use Rattle.formula_code.specs.Codes.{Codes, tree_at}
 use Rattle.block_column.specs.declared.slot.Slot.{Slot}
 use Rattle.block_column.specs.declared.slot.Slot.TheVariants as slot
 use Rattle.cell_columns.specs.Cells.{Column, cells_of, cells_only, column_at, column_number, content_of, slot_at}

@@ -13,10 +13,12 @@ use Rattle.formula_code.specs.Codes.{Codes, tree_at}
 use Rattle.run_tables.specs.Rows.{rows_erased, rows_inserted}
 use Rattle.block_column.specs.declared.slot.Slot.TheVariants as slot
 use Rattle.block_column.specs.Kinds.{is_filled}
-use Rattle.cell_columns.specs.declared.columns.TheConstants.{COLUMNS}
-use Rattle.cell_columns.specs.Cells.{Column, cell_in, column_at, slot_at}
+use Rattle.kept_codes.specs.declared.cells.TheConstants.{COLUMNS}
+use Rattle.kept_codes.specs.Columns.{cell_in}
+use Rattle.cell_columns.specs.Cells.{Column, column_at, slot_at}
 use Rattle.cell_columns.specs.Sheets.{AreSheets}
-use Rattle.cell_columns.specs.Shifted.{StaysIn, goes, rows_moved, sheet_of, tree_after}
+use Rattle.kept_codes.specs.RowChanges.{StaysIn, goes, sheet_of, tree_after}
+use Rattle.cell_columns.specs.Shifted.{rows_moved}
 use Rattle.cell_columns.proofs.RowsMoved.{after_deletion, after_insertion, before_deletion, before_insertion, front_long, length_erased, length_inserted}
 use Rattle.cell_columns.proofs.SheetShifted.{MovesWell, gone, moves_nowhere, moves_parts}
 

@@ -91,16 +91,6 @@ pub record Moving (change : Change) (columns now : List SlotRows) (groups : List
   pub part : PartlyMoved change (slots_of columns) (slots_of now) from number
   pub grouped : codes_of groups ≡ map codes_in (slots_of now)
 
-pub none_moved : (change : Change) (columns : List SlotRows) (groups : List GroupRows) (from : ℕ) → codes_of groups ≡ map codes_in (slots_of columns) → Moving change columns columns groups from from
-none_moved change columns groups from grouped = record {
-  part = record {
-    all = refl;
-    moved = λ n low high _. absurd (omega (arith, low, high));
-    others = λ n _. refl;
-  };
-  grouped = grouped;
-}
-
 module _ (change : Change) (columns now : List SlotRows) (groups : List GroupRows) (from number : ℕ) (so_far : Moving change columns now groups from number) (began : from ≤ number) (inside : number < length columns) (d : SlotRows) (g : GroupRows) (grouped : g.entries ≡ codes_in d.slots) where
   before : List Column
   before = slots_of columns

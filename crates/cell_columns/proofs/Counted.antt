@@ -11,7 +11,8 @@ use Rattle.formula_code.specs.Codes.{Codes}
 use Rattle.block_column.specs.declared.slot.Slot.{Slot}
 use Rattle.block_column.specs.declared.slot.Slot.TheVariants as slot
 use Rattle.block_column.specs.Kinds.{is_filled}
-use Rattle.cell_columns.specs.Cells.{Column, cell_in, cells_below, cells_from, cells_of, content_of}
+use Rattle.kept_codes.specs.Columns.{cell_in}
+use Rattle.cell_columns.specs.Cells.{Column, cells_below, cells_from, cells_of, content_of}
 use Rattle.cell_columns.specs.Uses.{cell_of, formula_of, formulas_in, summed}
 use Rattle.cell_columns.specs.Walks.{formulas_of}
 

@@ -16,7 +16,7 @@ use Rattle.calc_model.proofs.Places.{exact_places}
 use Rattle.formula_code.specs.Codes.{Codes}
 use Rattle.block_column.specs.declared.slot.Slot.{Slot}
 use Rattle.block_column.specs.declared.slot.Slot.TheVariants as slot
-use Rattle.cell_columns.specs.declared.columns.TheConstants.{COLUMNS}
+use Rattle.kept_codes.specs.declared.cells.TheConstants.{COLUMNS}
 use Rattle.cell_columns.specs.Cells.{Column, cells_of, cells_only, column_at, column_number, content_of, slot_at, with_rows}
 use Rattle.cell_columns.specs.Emptied.{lies_in, without_rows}
 use Rattle.cell_columns.specs.Sheets.{AreSheets}

@@ -17,7 +17,8 @@ use Rattle.block_column.specs.declared.block.Block.{Block}
 use Rattle.block_column.specs.Blocks.{a_block, block_run, blocks_of, kind_key}
 use Rattle.block_column.specs.Kinds.{is_filled, kind_of, same_kind}
 use Rattle.block_column.specs.KindTests.{kinds-decided}
-use Rattle.cell_columns.specs.Cells.{Column, cell_in}
+use Rattle.kept_codes.specs.Columns.{cell_in}
+use Rattle.cell_columns.specs.Cells.{Column}
 use Rattle.cell_columns.specs.Uses.{cell_of, formula_of}
 use Rattle.cell_columns.specs.Walks.{AreEmpty, filled_among, filled_in, formulas_by_blocks, formulas_in_block, holds_formula, holds_something, places_below, rows_in, slot_in}
 use Rattle.cell_columns.proofs.Among.{row, rows_sum, sum_alike, sum_map}

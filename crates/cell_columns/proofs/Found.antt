@@ -15,7 +15,8 @@ use Rattle.formula_code.specs.Codes.{Codes}
 use Rattle.block_column.specs.declared.slot.Slot.{Slot}
 use Rattle.block_column.specs.declared.slot.Slot.TheVariants as slot
 use Rattle.block_column.specs.Kinds.{is_filled}
-use Rattle.cell_columns.specs.Cells.{Column, cell_in, cells_below, cells_from, content_of}
+use Rattle.kept_codes.specs.Columns.{cell_in}
+use Rattle.cell_columns.specs.Cells.{Column, cells_below, cells_from, content_of}
 use Rattle.cell_columns.proofs.Orders.{below_column, below_columns, columns_rise, rows_rise}
 
 not_same : (o : Ordering) → is_lt o ≡ true → is_eq o ≡ false

@@ -59,7 +59,6 @@ pub mod SheetShifted
 pub mod ColumnShifted
 pub mod BookShifted
 pub mod ColumnsMoved
-pub mod Gathering
 pub mod Visited
 pub mod Restored
 pub mod RowsChanged

@@ -15,7 +15,7 @@ use Rattle.block_column.specs.declared.slot.Slot.TheVariants as slot
 use Rattle.block_column.specs.declared.slot.SlotRef.{SlotRef}
 use Rattle.block_column.specs.declared.slot.SlotRef.TheVariants as lent
 use Rattle.block_column.specs.Kinds.{is_filled, lent_slot}
-use Rattle.cell_columns.specs.declared.columns.TheConstants.{COLUMNS}
+use Rattle.kept_codes.specs.declared.cells.TheConstants.{COLUMNS}
 use Rattle.cell_columns.specs.Cells.{Column, cells_of, column_at, column_number, content_of, slot_at}
 use Rattle.cell_columns.specs.Emptied.{lies_in}
 use Rattle.cell_columns.specs.Looks.{AreEmptyBelow, IsCoded, IsLent}

@@ -9,7 +9,8 @@ use Rattle.calc_model.proofs.Areas.{both_true}
 use Rattle.calc_model.proofs.EntriesKept.{both_so}
 use Rattle.formula_code.specs.Codes.{Codes}
 use Rattle.block_column.specs.Kinds.{is_filled}
-use Rattle.cell_columns.specs.Cells.{Column, cell_in, cells_below, cells_from, cells_of, content_of}
+use Rattle.kept_codes.specs.Columns.{cell_in}
+use Rattle.cell_columns.specs.Cells.{Column, cells_below, cells_from, cells_of, content_of}
 
 pub rows_rise : (number row lower : ℕ) → row < lower → is_lt (place_cmp (cell_in number row) (cell_in number lower)) ≡ true
 rows_rise number row lower h = grind (arith, nat_tests)

@@ -9,7 +9,7 @@ use Rattle.calc_addr.specs.declared.cell.TheConstants.{LAST_ROW}
 use Rattle.calc_addr.specs.Places.{Place}
 use Rattle.block_column.specs.declared.slot.Slot.{Slot}
 use Rattle.block_column.specs.declared.slot.Slot.TheVariants as slot
-use Rattle.cell_columns.specs.declared.columns.TheConstants.{COLUMNS}
+use Rattle.kept_codes.specs.declared.cells.TheConstants.{COLUMNS}
 use Rattle.cell_columns.specs.Cells.{Column, column_at, column_number, rows_put, slot_at, with_rows}
 use Rattle.cell_columns.specs.Uses.{summed}
 use Rattle.cell_columns.proofs.PutSlot.{unequal}

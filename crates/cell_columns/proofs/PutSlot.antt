@@ -9,7 +9,7 @@ use Rattle.calc_addr.specs.Places.{IsPlace, Place}
 use Rattle.calc_model.proofs.Places.{exact_places}
 use Rattle.block_column.specs.declared.slot.Slot.{Slot}
 use Rattle.block_column.specs.declared.slot.Slot.TheVariants as slot
-use Rattle.cell_columns.specs.declared.columns.TheConstants.{COLUMNS}
+use Rattle.kept_codes.specs.declared.cells.TheConstants.{COLUMNS}
 use Rattle.cell_columns.specs.Cells.{Column, column_at, column_number, slot_at, with_slot}
 use Rattle.cell_columns.specs.Uses.{code_in, codes_in, summed}
 use Rattle.cell_columns.proofs.Edited.{number_in}

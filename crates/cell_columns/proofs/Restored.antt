@@ -16,7 +16,7 @@ use Rattle.calc_model.proofs.EntriesMoved.{length-filter, sorted-filter}
 use Rattle.calc_model.proofs.Places.{exact_places, places_total, same_places}
 use Rattle.calc_model.proofs.Reached.{same_cell}
 use Rattle.cell_columns.specs.Cells.{cells_only}
-use Rattle.cell_columns.specs.Gathered.{Among}
+use Rattle.kept_codes.specs.Gathered.{Among}
 use Rattle.cell_columns.specs.Looks.{with_contents}
 use Rattle.cell_columns.specs.Reset.{emptied, with_all}
 use Rattle.cell_columns.proofs.Contents.{find_inserted, find_removed}

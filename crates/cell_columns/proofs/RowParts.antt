@@ -10,8 +10,10 @@ use Rattle.formula_code.specs.Codes.{Codes}
 use Rattle.block_column.specs.declared.slot.Slot.{Slot}
 use Rattle.block_column.specs.declared.slot.Slot.TheVariants as slot
 use Rattle.block_column.specs.Kinds.{is_filled}
-use Rattle.cell_columns.specs.Cells.{Column, cell_in, cells_below, content_of}
-use Rattle.cell_columns.specs.Shifted.{goes, shifted, tree_after}
+use Rattle.kept_codes.specs.Columns.{cell_in}
+use Rattle.cell_columns.specs.Cells.{Column, cells_below, content_of}
+use Rattle.kept_codes.specs.RowChanges.{goes, tree_after}
+use Rattle.cell_columns.specs.Shifted.{shifted}
 use Rattle.cell_columns.proofs.Edited.{IsFit}
 
 same_row : (r : ℕ) → r + 0 ≡ r

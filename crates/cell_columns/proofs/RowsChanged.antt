@@ -14,10 +14,10 @@ use Rattle.calc_model.specs.RowEdits.{shifted_entry}
 use Rattle.calc_model.proofs.Areas.{both_true}
 use Rattle.calc_model.proofs.EntriesKept.{both_so}
 use Rattle.cell_columns.specs.Cells.{cells_only}
-use Rattle.cell_columns.specs.Gathered.{AllKeepOrAre}
+use Rattle.cell_columns.specs.Shifted.{AllKeepForms, AllKeepOrAre, AllStayIn, KeepsForm, shifted}
 use Rattle.cell_columns.specs.Looks.{with_contents}
 use Rattle.cell_columns.specs.Reset.{emptied, with_all}
-use Rattle.cell_columns.specs.Shifted.{AllKeepForms, AllStayIn, KeepsForm, StaysIn, goes, shifted, tree_after}
+use Rattle.kept_codes.specs.RowChanges.{StaysIn, goes, tree_after}
 use Rattle.cell_columns.proofs.Listed.{all_hold}
 use Rattle.cell_columns.proofs.Maps.{index_any}
 use Rattle.cell_columns.proofs.Restored.{formula_held, found_held, part_few, restored, still_held}

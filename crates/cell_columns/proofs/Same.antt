@@ -18,7 +18,8 @@ use Rattle.block_column.specs.declared.slot.Slot.TheVariants as slot
 use Rattle.block_column.specs.Kinds.{is_filled}
 use Rattle.block_column.specs.SlotRows.{SlotRows}
 use Rattle.formula_groups.specs.GroupRows.{GroupRows}
-use Rattle.cell_columns.specs.Cells.{Column, cell_in, cells_below, cells_from, cells_of, content_of, slot_at}
+use Rattle.kept_codes.specs.Columns.{cell_in}
+use Rattle.cell_columns.specs.Cells.{Column, cells_below, cells_from, cells_of, content_of, slot_at}
 use Rattle.cell_columns.specs.Lent.{AreColumns, codes_of, slots_of}
 use Rattle.cell_columns.specs.Sheets.{AreSheets}
 use Rattle.cell_columns.specs.Uses.{cell_of, codes_in, formula_of, formulas_in, summed}

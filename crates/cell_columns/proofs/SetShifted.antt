@@ -24,7 +24,8 @@ use Rattle.calc_model.proofs.Places.{exact_places, places_total}
 use Rattle.calc_model.proofs.Reached.{same_cell}
 use Rattle.calc_model.proofs.RowsKept.{deletion_rises, insertion_rises}
 use Rattle.cell_columns.specs.Reset.{emptied, with_all}
-use Rattle.cell_columns.specs.Shifted.{StaysIn, goes, shifted, tree_after}
+use Rattle.kept_codes.specs.RowChanges.{StaysIn, goes, tree_after}
+use Rattle.cell_columns.specs.Shifted.{shifted}
 
 -- the place isn't deleted
 abbrev pub is_left : Change → Place → Bool

@@ -14,7 +14,7 @@ use Rattle.block_column.specs.declared.slot.Slot.TheVariants as slot
 use Rattle.block_column.specs.Kinds.{is_filled}
 use Rattle.block_column.specs.SlotRows.{SlotRows}
 use Rattle.formula_groups.specs.GroupRows.{GroupRows}
-use Rattle.cell_columns.specs.declared.columns.TheConstants.{COLUMNS}
+use Rattle.kept_codes.specs.declared.cells.TheConstants.{COLUMNS}
 use Rattle.cell_columns.specs.Cells.{Column, cells_of, column_at, column_number, slot_at, with_code, with_slot}
 use Rattle.cell_columns.specs.Lent.{AreColumns, codes_of, slots_of}
 use Rattle.cell_columns.specs.Sheets.{AreSheets}

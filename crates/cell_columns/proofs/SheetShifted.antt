@@ -1,13 +1,10 @@
 -- The columns of a sheet go with a change of its rows: columns and codes stay those of a book, and the cells go.
-use Rattle.std.proofs.Common.{◌≡◌, ℕ, suc, ◌+◌, ◌-◌, ◌<◌, ◌==◌, true, false, cond, List, [], ◌∷◌, length, refl, sym, ap, subst, ◌∙◌, arith}
+use Rattle.std.proofs.Common.{◌≡◌, ℕ, suc, ◌+◌, ◌-◌, ◌<◌, true, false, List, [], ◌∷◌, length, refl, sym, ap, subst, ◌∙◌, arith}
 use Rattle.std.specs.Prelude.{slice_index_or, sum_by}
-use Rattle.std.proofs.lemmas.Bool.Decides.{Decides-eqb, nat_tests}
 use Rattle.std.proofs.lemmas.List.Sums.{sum_by-cons}
 use Rattle.calc_addr.specs.declared.cell.TheConstants.{LAST_ROW}
 use Rattle.calc_addr.specs.Places.{IsPlace, Place}
-use Rattle.calc_addr.specs.Shifts.{place_after_deletion, place_after_insertion}
 use Rattle.calc_model.specs.declared.change.Change.{Change}
-use Rattle.calc_model.specs.declared.change.Change.TheVariants.{Stays, Moves, Inserted, Deleted}
 use Rattle.calc_model.specs.declared.content.Content.{Content}
 use Rattle.calc_model.specs.declared.content.Content.TheVariants as content
 use Rattle.calc_model.specs.Books.{is_content, is_held}
@@ -20,44 +17,17 @@ use Rattle.formula_code.proofs.Forms.{formed_is_valid}
 use Rattle.block_column.specs.declared.slot.Slot.{Slot}
 use Rattle.block_column.specs.declared.slot.Slot.TheVariants as slot
 use Rattle.block_column.specs.Kinds.{is_filled}
-use Rattle.cell_columns.specs.declared.columns.TheConstants.{COLUMNS}
-use Rattle.cell_columns.specs.Cells.{Column, cell_in, cells_below, column_at, content_of, slot_at}
+use Rattle.kept_codes.specs.declared.cells.TheConstants.{COLUMNS}
+use Rattle.kept_codes.specs.Columns.{cell_in}
+use Rattle.cell_columns.specs.Cells.{Column, cells_below, column_at, content_of, slot_at}
 use Rattle.cell_columns.specs.Sheets.{AreSheets}
-use Rattle.cell_columns.specs.Shifted.{StaysIn, goes, shifted, tree_after}
+use Rattle.kept_codes.specs.RowChanges.{StaysIn, goes, tree_after}
+use Rattle.cell_columns.specs.Shifted.{shifted}
 use Rattle.cell_columns.specs.Uses.{summed}
 use Rattle.cell_columns.proofs.Edited.{IsFit}
 use Rattle.cell_columns.proofs.RowParts.{Fits, GoesWell, Meets, Rows, cells_there, rows_from}
 use Rattle.cell_columns.proofs.RowsMoved.{Holds, cells_moved, fits_moved, sums_moved}
 use Rattle.cell_columns.proofs.Told.{number_of, place_in, row_behind}
-
--- a cell that stays goes to a cell
-pub place_goes : (change : Change) → IsChange change → (q : Place) → IsPlace q → StaysIn change q → IsPlace (goes change q)
-place_goes (Inserted sheet place count) rows q is stays =
-    elim (q.sheet == sheet) as (λ b. (q.sheet == sheet) ≡ b → IsPlace (cond b (place_after_insertion place count q) q)) [
-      | true ↦ λ on. record {
-        sheet_in = is.sheet_in;
-        col_from = is.col_from;
-        col_to = is.col_to;
-        row_from = grind (arith, nat_tests, is.row_from);
-        row_to = stays ((Decides-eqb q.sheet sheet).0 on);
-      }
-      | false ↦ λ _. is
-    ] refl
-place_goes (Deleted sheet place count) rows q is stays =
-    elim (q.sheet == sheet) as (λ b. (q.sheet == sheet) ≡ b → IsPlace (cond b (place_after_deletion place count q) q)) [
-      | true ↦ λ on.
-          let out = stays ((Decides-eqb q.sheet sheet).0 on) in
-          record {
-            sheet_in = is.sheet_in;
-            col_from = is.col_from;
-            col_to = is.col_to;
-            row_from = grind (arith, nat_tests, is.row_from, rows.from, out);
-            row_to = grind (arith, nat_tests, is.row_to);
-          }
-      | false ↦ λ _. is
-    ] refl
-place_goes Stays rows q is stays = is
-place_goes (Moves cols by) rows q is stays = is
 
 pub empty_slot : (x : Slot) → is_filled x ≡ false → x ≡ slot.Empty
 empty_slot slot.Empty h = refl

@@ -19,8 +19,9 @@ use Rattle.formula_code.specs.Codes.{Codes}
 use Rattle.block_column.specs.declared.slot.Slot.{Slot}
 use Rattle.block_column.specs.declared.slot.Slot.TheVariants as slot
 use Rattle.block_column.specs.Kinds.{is_filled}
-use Rattle.cell_columns.specs.declared.columns.TheConstants.{COLUMNS}
-use Rattle.cell_columns.specs.Cells.{Column, cell_in, cells_below, cells_from, cells_of, cells_only, column_at, column_number, content_of, slot_at}
+use Rattle.kept_codes.specs.declared.cells.TheConstants.{COLUMNS}
+use Rattle.kept_codes.specs.Columns.{cell_in}
+use Rattle.cell_columns.specs.Cells.{Column, cells_below, cells_from, cells_of, cells_only, column_at, column_number, content_of, slot_at}
 use Rattle.cell_columns.specs.Sheets.{AreSheets}
 use Rattle.cell_columns.proofs.Orders.{in_order}
 use Rattle.cell_columns.proofs.Found.{in_column, shown}

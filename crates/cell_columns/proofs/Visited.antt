@@ -19,11 +19,12 @@ use Rattle.run_tables.proofs.RunLists.{runs-rise}
 use Rattle.block_column.specs.declared.slot.Slot.{Slot}
 use Rattle.block_column.specs.declared.slot.Slot.TheVariants as slot
 use Rattle.block_column.specs.Kinds.{is_filled}
-use Rattle.cell_columns.specs.declared.columns.TheConstants.{COLUMNS}
-use Rattle.cell_columns.specs.Cells.{Column, cell_in, cells_of, cells_only, column_at, column_number, content_of, slot_at}
-use Rattle.cell_columns.specs.Gathered.{AllKeepOrAre, Among, Formulas, Gathers, InColumns, InGroups}
+use Rattle.kept_codes.specs.declared.cells.TheConstants.{COLUMNS}
+use Rattle.kept_codes.specs.Columns.{cell_in}
+use Rattle.cell_columns.specs.Cells.{Column, cells_of, cells_only, column_at, column_number, content_of, slot_at}
+use Rattle.kept_codes.specs.Gathered.{Among, Formulas, Gathers, InColumns, InGroups}
+use Rattle.cell_columns.specs.Shifted.{AllKeepOrAre, AllStayIn, KeepsForm}
 use Rattle.cell_columns.specs.Sheets.{AreSheets}
-use Rattle.cell_columns.specs.Shifted.{AllStayIn, KeepsForm}
 use Rattle.cell_columns.specs.Uses.{code_in, codes_in}
 use Rattle.cell_columns.proofs.Edited.{number_in}
 use Rattle.cell_columns.proofs.Groups.{codes_at}

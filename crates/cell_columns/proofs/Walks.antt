@@ -9,7 +9,8 @@ use Rattle.calc_model.specs.CellEdits.{CellEntries}
 use Rattle.formula_code.specs.Codes.{Codes}
 use Rattle.block_column.specs.declared.slot.Slot.{Slot}
 use Rattle.block_column.specs.Kinds.{is_filled}
-use Rattle.cell_columns.specs.Cells.{Column, cell_in, cells_below, cells_from, cells_of, column_at, content_of}
+use Rattle.kept_codes.specs.Columns.{cell_in}
+use Rattle.cell_columns.specs.Cells.{Column, cells_below, cells_from, cells_of, column_at, content_of}
 use Rattle.cell_columns.specs.Emptied.{lies_in}
 use Rattle.cell_columns.specs.Walks.{places_below, places_of, rows_in, within_rows}
 

@@ -1,6 +1,6 @@
 -- The columns of sixteen sheets as the cells of a book. The columns are numbered from 0, those of the first sheet
 -- first, and each has the slots of its rows.
-use Rattle.std.specs.Prelude.{ℕ, ◌+◌, ◌-◌, ◌*◌, ◌/◌, ◌%◌, ◌==◌, ◌&&◌, nat_le, nat_lt, Bool, Option, List, [], ◌∷◌, ◌++◌, length, take, drop, if◌then◌else◌, slice_index_or, slice_set}
+use Rattle.std.specs.Prelude.{ℕ, ◌+◌, ◌-◌, ◌*◌, ◌==◌, ◌&&◌, nat_le, nat_lt, Bool, Option, List, [], ◌∷◌, ◌++◌, length, take, drop, if◌then◌else◌, slice_index_or, slice_set}
 use Rattle.calc_addr.specs.declared.cell.TheConstants.{LAST_COL}
 use Rattle.calc_addr.specs.Places.{Place}
 use Rattle.calc_model.specs.declared.content.Content.{Content}
@@ -12,6 +12,7 @@ use Rattle.formula_code.specs.Codes.{Codes, tree_at}
 use Rattle.block_column.specs.declared.slot.Slot.{Slot}
 use Rattle.block_column.specs.declared.slot.Slot.TheVariants as slot
 use Rattle.block_column.specs.Kinds.{is_filled}
+use Rattle.kept_codes.specs.Columns.{cell_in}
 
 abbrev pub Column : Type 0
 Column = List Slot
@@ -19,10 +20,6 @@ Column = List Slot
 -- the number of a cell's column
 abbrev pub column_number : Place → ℕ
 column_number q = q.sheet * LAST_COL + (q.col - 1)
-
--- the cell of a column in a row
-abbrev pub cell_in : ℕ → ℕ → Place
-cell_in number row = record { sheet = number / LAST_COL; col = number % LAST_COL + 1; row = row }
 
 -- what a slot is in a cell
 abbrev pub content_of : Codes → Place → Slot → Content

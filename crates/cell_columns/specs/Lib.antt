@@ -9,7 +9,6 @@
 -- Walks: the rows of a column that hold something, and the cells that they are.
 -- ColumnRuns: the groups and the blocks of a column, as the cells alone have them.
 -- Shifted: where cells go with a change of rows.
--- Gathered: the formulas that don't keep their codes.
 -- Reset: cells that are emptied, and cells that are set.
 pub mod Cells
 pub mod Uses
@@ -22,5 +21,4 @@ pub mod Looks
 pub mod Walks
 pub mod ColumnRuns
 pub mod Shifted
-pub mod Gathered
 pub mod Reset

@@ -6,7 +6,7 @@ use Rattle.calc_model.specs.Books.{is_content}
 use Rattle.formula_code.specs.Codes.{Codes, IsCodeAt, total_uses, uses_at}
 use Rattle.block_column.specs.declared.slot.Slot.TheVariants.{Formula}
 use Rattle.block_column.specs.Kinds.{is_filled}
-use Rattle.cell_columns.specs.declared.columns.TheConstants.{COLUMNS}
+use Rattle.kept_codes.specs.declared.cells.TheConstants.{COLUMNS}
 use Rattle.cell_columns.specs.Cells.{Column, content_of, slot_at}
 use Rattle.cell_columns.specs.Uses.{formulas_in, uses_in}
 

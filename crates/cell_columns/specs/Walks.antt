@@ -11,7 +11,8 @@ use Rattle.block_column.specs.declared.block.Kind.{Kind}
 use Rattle.block_column.specs.declared.block.Kind.TheVariants as kind
 use Rattle.block_column.specs.declared.block.Block.{Block}
 use Rattle.block_column.specs.Kinds.{is_filled}
-use Rattle.cell_columns.specs.Cells.{Column, cell_in}
+use Rattle.kept_codes.specs.Columns.{cell_in}
+use Rattle.cell_columns.specs.Cells.{Column}
 use Rattle.cell_columns.specs.Emptied.{lies_in}
 
 -- the slot of a row

@@ -7,12 +7,12 @@ ghost use Rattle.cell_columns.specs.Cells.{Column, column_number, with_code, wit
 ghost use Rattle.cell_columns.specs.Lent.{codes_of, slots_of};
 ghost use Rattle.cell_columns.specs.Uses.{code_in};
 
-use crate::columns::COLUMNS;
 use crate::slots::put_slot;
 use block_column::{BlockColumn, Slot};
 use calc_addr::{Area, Cell, LAST_COL, NoMemory};
 use calc_model::CodeId;
 use formula_groups::GroupColumn;
+use kept_codes::COLUMNS;
 
 /// The number of a cell's column among all.
 pub(crate) fn column_number(cell: Cell) -> usize

@@ -11,9 +11,6 @@ use formula_groups::GroupColumn;
 use std::alloc::Global;
 use std::marker::Model;
 
-/// How many columns there are: sixteen sheets of 1,024.
-pub const COLUMNS: usize = 16_384;
-
 /// What each cell of a book holds, as a column of slots for each column of its sheets, with the groups of
 /// its formulas and their codes. Contracts see the cells that aren't empty, in the order of cells.
 #[derive(Drop)]

@@ -9,9 +9,9 @@ ghost use Rattle.cell_columns.specs.Lent.{slots_of};
 ghost use Rattle.cell_columns.specs.Uses.{cell_of, formulas_in, summed};
 ghost use Rattle.cell_columns.specs.Walks.{block_overlap, filled_among, filled_in, formulas_by_blocks, formulas_in_block, holds_something, within_rows};
 
-use crate::columns::COLUMNS;
 use block_column::{Block, BlockColumn, Kind};
 use calc_addr::LAST_ROW;
+use kept_codes::COLUMNS;
 
 /// Whether the slots of that kind hold something.
 pub(crate) fn holds_something(kind: Kind) -> bool

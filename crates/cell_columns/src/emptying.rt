@@ -8,12 +8,12 @@ ghost use Rattle.cell_columns.specs.Emptied.{without_rows};
 ghost use Rattle.cell_columns.specs.Lent.{AreColumns, HaveRoom, codes_of, slots_of};
 
 use crate::cells::make_room;
-use crate::columns::COLUMNS;
 use crate::release::release;
 use block_column::BlockColumn;
 use calc_addr::NoMemory;
 use formula_code::CodeTable;
 use formula_groups::GroupColumn;
+use kept_codes::COLUMNS;
 
 /// Empties neighbouring rows of a column and of its groups, which both have the room.
 fn empty_rows(column: &mut BlockColumn, groups: &mut GroupColumn, first: u32, last: u32)

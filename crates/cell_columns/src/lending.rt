@@ -8,11 +8,12 @@ ghost use Rattle.cell_columns.specs.Looks.{AreSlotsOf};
 ghost use Rattle.cell_columns.specs.ColumnRuns.{AllLie, IsSheetColumn, blocks_in, groups_in, rows_of_block, rows_of_group, rows_of_run};
 
 use crate::cells::column_number;
-use crate::columns::{COLUMNS, CellColumns};
+use crate::columns::CellColumns;
 use block_column::{Block, BlockColumn};
 use calc_addr::Cell;
 use formula_code::{CodeTable, forms_are_trees};
 use formula_groups::{Group, GroupColumn};
+use kept_codes::COLUMNS;
 
 /// The groups of all columns, where column c of sheet s stands at 1024 * s + c - 1, and the table that has the
 /// codes of their formulas.

@@ -11,12 +11,11 @@ mod looking;
 mod making;
 mod reading;
 mod release;
-mod resetting;
 mod row_edits;
 mod shifting;
 mod slots;
 mod walking;
 
-pub use columns::{COLUMNS, CellColumns};
+pub use columns::CellColumns;
 pub use lending::CodedGroups;
 pub use looking::Coded;

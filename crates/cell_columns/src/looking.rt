@@ -8,7 +8,7 @@ ghost use Rattle.cell_columns.specs.Looks.{AreEmptyBelow, IsCoded, IsLent, with_
 ghost use Rattle.cell_columns.specs.Walks.{formulas_of, places_of};
 
 use crate::cells::numbers_of;
-use crate::columns::{COLUMNS, CellColumns};
+use crate::columns::CellColumns;
 use crate::counting::{all_formulas, count_cells};
 use crate::reading::slot_ref;
 use crate::walking::{empty_below, push_cells};
@@ -16,6 +16,7 @@ use block_column::SlotRef;
 use calc_addr::{Area, Cell, LAST_ROW, NoMemory};
 use calc_model::{CodeId, Content};
 use formula_code::CodeTable;
+use kept_codes::COLUMNS;
 use std::alloc::Global;
 
 /// A formula's code, with the table that has it.

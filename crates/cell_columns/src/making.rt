@@ -3,10 +3,10 @@ ghost use Rattle.block_column.specs.Tables.{no_slots};
 ghost use Rattle.formula_groups.specs.Groups.{no_codes};
 ghost use Rattle.cell_columns.specs.Lent.{codes_of, slots_of};
 
-use crate::columns::COLUMNS;
 use block_column::BlockColumn;
 use calc_addr::NoMemory;
 use formula_groups::GroupColumn;
+use kept_codes::COLUMNS;
 use std::alloc::Global;
 
 pub(crate) fn empty_columns(alloc: Global) -> Result<Vec<BlockColumn>, NoMemory>

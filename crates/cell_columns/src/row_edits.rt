@@ -2,25 +2,27 @@
 ghost use Rattle.std.specs.Prelude.{◌≡◌, ◌≤◌, ℕ, false, true, IfOk, OnOk, length, take};
 ghost use Rattle.std.specs.List.{list_all};
 ghost use Rattle.calc_addr.specs.declared.cell.TheConstants.{LAST_SHEET};
-ghost use Rattle.calc_model.specs.Books.{content_at, is_formula};
+ghost use Rattle.calc_model.specs.Books.{content_at, is_formula, with_content};
 ghost use Rattle.calc_model.specs.Changes.{IsChange, IsShift};
 ghost use Rattle.calc_model.specs.RowEdits.{cells_after_deletion, cells_after_insertion, is_pushed_out};
+ghost use Rattle.calc_model.specs.declared.content.Content.{Content};
 ghost use Rattle.calc_model.specs.declared.limits.TheConstants.{MOST_CELLS};
 ghost use Rattle.cell_columns.specs.Cells.{cells_only};
 ghost use Rattle.cell_columns.specs.Looks.{with_contents};
-ghost use Rattle.cell_columns.specs.Reset.{with_all};
-ghost use Rattle.cell_columns.specs.Shifted.{AllStayIn, sheet_of, shifted};
+ghost use Rattle.cell_columns.specs.Reset.{emptied, with_all};
+ghost use Rattle.kept_codes.specs.RowChanges.{IsRowChange, sheet_of};
+ghost use Rattle.cell_columns.specs.Shifted.{AllStayIn, shifted};
 
-use crate::changing::home_after;
 use crate::columns::CellColumns;
 use calc_addr::{Area, Cell, LAST_COL, NoMemory};
 use calc_model::{Change, Content};
+use kept_codes::home_after;
 use std::alloc::Global;
 
 impl CellColumns {
-    /// Inserts rows of a sheet at a place. It is linear in the blocks and groups of the sheet's columns and
-    /// in the formulas whose relative forms change. Where memory is refused, nothing is said of the cells
-    /// that are left.
+    /// Inserts rows of a sheet at a place. It is linear in the blocks of the sheet's columns and in the groups
+    /// of all columns, and sets each formula anew whose relative form changes. Where memory is refused, nothing
+    /// is said of the cells that are left.
     pub fn insert_rows(
         &mut self,
         alloc: Global,
@@ -73,7 +75,7 @@ impl CellColumns {
     /// Changes the rows of a sheet, where each cell that isn't empty stays. The formulas that don't keep
     /// their codes are taken out before the columns go, and are put back as they become.
     fn change_rows(&mut self, alloc: Global, change: Change) -> Result<(), NoMemory>
-        requires change { IsChange change }
+        requires change { IsRowChange change }
         requires sheet { sheet_of change ≤ LAST_SHEET }
         requires stay { AllStayIn change self.old }
         ensures { OnOk result (self.new ≡ shifted change self.old) }
@@ -96,7 +98,8 @@ impl CellColumns {
     ) -> Result<Vec<(Cell, Content)>, NoMemory>
         requires change { IsChange change }
         requires stay { AllStayIn change self.now }
-        requires formulas { list_all (λ q. is_formula (content_at (cells_only self.now) q)) cells.now ≡ true }
+        requires formulas { list_all (λ q. is_formula (content_at (cells_only self.now) q))
+            cells.now ≡ true }
         ensures { IfOk result (λ entries.
             entries.items ≡ shifted change (with_contents self.now cells.now)) }
     {
@@ -108,6 +111,23 @@ impl CellColumns {
             entries.push((home_after(change, *cell), changed))?;
         }
         Ok(entries)
+    }
+
+    fn empty_cell(&mut self, alloc: Global, cell: Cell) -> Result<(), NoMemory>
+        ensures { OnOk result (self.new ≡ with_content self.old cell Content.Empty) }
+    {
+        self.are_book();
+        self.set(alloc, cell, &Content::Empty)
+    }
+
+    /// Empties cells, one after the other.
+    fn empty_cells(&mut self, alloc: Global, cells: &[Cell]) -> Result<(), NoMemory>
+        ensures { OnOk result (self.new ≡ emptied self.old cells.now) }
+    {
+        for cell in cells {
+            self.empty_cell(alloc, *cell)?;
+        }
+        Ok(())
     }
 
     /// Puts contents into cells, one after the other.

@@ -5,14 +5,16 @@ ghost use Rattle.calc_model.specs.Changes.{IsChange};
 ghost use Rattle.block_column.specs.declared.slot.Slot.{Slot};
 ghost use Rattle.cell_columns.specs.Cells.{column_at};
 ghost use Rattle.cell_columns.specs.Lent.{codes_of, slots_of};
-ghost use Rattle.cell_columns.specs.Shifted.{AllKeepForms, AllStayIn, PartlyMoved, rows_moved, sheet_of, shifted};
+ghost use Rattle.kept_codes.specs.RowChanges.{sheet_of};
+ghost use Rattle.cell_columns.specs.Shifted.{AllKeepForms, AllStayIn, PartlyMoved, rows_moved, shifted};
 ghost use Rattle.cell_columns.specs.Uses.{codes_in};
 
-use crate::columns::{COLUMNS, CellColumns};
+use crate::columns::CellColumns;
 use block_column::BlockColumn;
 use calc_addr::{LAST_COL, NoMemory};
 use calc_model::Change;
 use formula_groups::GroupColumn;
+use kept_codes::COLUMNS;
 
 /// The sheet whose rows change.
 fn sheet_of(change: Change) -> u8

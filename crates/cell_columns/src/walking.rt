@@ -4,31 +4,17 @@ ghost use Rattle.calc_addr.specs.declared.cell.TheConstants.{LAST_ROW};
 ghost use Rattle.calc_addr.specs.Places.{IsPlace};
 ghost use Rattle.run_tables.specs.Rows.{AreRows};
 ghost use Rattle.formula_code.specs.Codes.{Codes};
-ghost use Rattle.cell_columns.specs.Cells.{cell_in, cells_of, column_at, column_number};
+ghost use Rattle.kept_codes.specs.Columns.{cell_in};
+ghost use Rattle.cell_columns.specs.Cells.{cells_of, column_at, column_number};
 ghost use Rattle.cell_columns.specs.Lent.{slots_of};
 ghost use Rattle.cell_columns.specs.Walks.{AreEmpty, IsNext, places_below, places_of, rows_in, within_rows};
 
 use crate::cells::column_number;
-use crate::columns::COLUMNS;
 use crate::counting::holds_something;
 use block_column::BlockColumn;
-use calc_addr::{Cell, LAST_COL, LAST_ROW, NoMemory};
+use calc_addr::{Cell, LAST_ROW, NoMemory};
+use kept_codes::{COLUMNS, cell_in};
 use run_tables::piece_at;
-
-/// The cell of a column in a row.
-pub(crate) fn cell_in(number: usize, row: u32) -> Cell
-    requires number { number < COLUMNS }
-    requires from { 1 ≤ row }
-    requires to { row ≤ LAST_ROW }
-    ensures { result ≡ cell_in number row }
-{
-    let columns = usize::from(LAST_COL);
-    Cell {
-        sheet: (number / columns) as u8,
-        col: (number % columns) as u16 + 1,
-        row,
-    }
-}
 
 /// The first row that isn't empty, from one row on down to another. It takes the logarithm of the blocks.
 pub(crate) fn next_filled(column: &BlockColumn, first: u32, last: u32) -> Option<u32>

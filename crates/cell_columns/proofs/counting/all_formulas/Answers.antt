@@ -4,7 +4,7 @@ use Rattle.std.proofs.lemmas.List.Sums.{get_or-le-sum_by, sum_by-take-le, sum_by
 use Rattle.calc_addr.specs.declared.cell.TheConstants.{LAST_ROW}
 use Rattle.block_column.specs.Blocks.{blocks_of}
 use Rattle.block_column.specs.SlotRows.{SlotRows}
-use Rattle.cell_columns.specs.declared.columns.TheConstants.{COLUMNS}
+use Rattle.kept_codes.specs.declared.cells.TheConstants.{COLUMNS}
 use Rattle.cell_columns.specs.Cells.{Column, column_at}
 use Rattle.cell_columns.specs.Lent.{slots_of}
 use Rattle.cell_columns.specs.Uses.{formula_of, formulas_in}

@@ -2,7 +2,7 @@ use Rattle.std.proofs.Common.{◌≡◌, [], ◌∷◌, ◌++◌, sym, ap, ◌�
 use Rattle.std.specs.Prelude.{replicate}
 use Rattle.block_column.specs.SlotRows.{SlotRows}
 use Rattle.block_column.specs.Tables.{no_slots}
-use Rattle.cell_columns.specs.declared.columns.TheConstants.{COLUMNS}
+use Rattle.kept_codes.specs.declared.cells.TheConstants.{COLUMNS}
 use Rattle.cell_columns.specs.Lent.{slots_of}
 use Rattle.cell_columns.proofs.Nothing.{map_more, replicate_more}
 use Rattle.cell_columns.proofs.making.empty_columns.Goals as goal

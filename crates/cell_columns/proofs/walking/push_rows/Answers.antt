@@ -1,6 +1,6 @@
 use Rattle.std.proofs.Common.{◌≡◌, ℕ, ◌+◌, ◌-◌, List, [], ◌∷◌, ◌++◌, take, drop, refl, sym, ap, ◌∙◌, arith}
 use Rattle.calc_addr.specs.Places.{Place}
-use Rattle.cell_columns.specs.Cells.{cell_in}
+use Rattle.kept_codes.specs.Columns.{cell_in}
 use Rattle.cell_columns.specs.Walks.{places_below}
 use Rattle.cell_columns.proofs.Filled.{empty_after, filled_after}
 use Rattle.cell_columns.proofs.walking.push_rows.Goals as goal

@@ -1,6 +1,6 @@
 use Rattle.std.proofs.Common.{◌++◌, ap, ◌∙◌}
 use Rattle.calc_addr.specs.declared.cell.TheConstants.{LAST_ROW}
-use Rattle.cell_columns.specs.declared.columns.TheConstants.{COLUMNS}
+use Rattle.kept_codes.specs.declared.cells.TheConstants.{COLUMNS}
 use Rattle.cell_columns.specs.Cells.{cells_of}
 use Rattle.cell_columns.specs.Lent.{slots_of}
 use Rattle.cell_columns.specs.Walks.{places_of, within_rows}

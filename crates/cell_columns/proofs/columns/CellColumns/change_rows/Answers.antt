@@ -7,7 +7,14 @@ use Rattle.cell_columns.specs.Looks.{with_contents}
 use Rattle.cell_columns.specs.Reset.{emptied, with_all}
 use Rattle.cell_columns.specs.Shifted.{AllKeepForms, AllStayIn, shifted}
 use Rattle.cell_columns.proofs.RowsChanged.{all_back, back_few, others_keep, others_stay}
+use Rattle.kept_codes.proofs.Going.{is_change}
 use Rattle.cell_columns.proofs.columns.CellColumns.change_rows.Goals as goal
+
+pub changed-requires-clause-change : goal.changed-requires-clause-change
+changed-requires-clause-change c = is_change c.args.change c.requires.change
+
+pub shift-requires-clause-change : goal.shift-requires-clause-change
+shift-requires-clause-change c = is_change c.args.change c.requires.change
 
 pub shift-requires-clause-stay : goal.shift-requires-clause-stay
 shift-requires-clause-stay c =

@@ -3,11 +3,11 @@ use Rattle.std.specs.List.{list_all}
 use Rattle.calc_addr.specs.Places.{Place}
 use Rattle.calc_model.specs.Books.{content_at, is_formula}
 use Rattle.calc_model.specs.CellEdits.{CellEntries}
-use Rattle.cell_columns.specs.declared.columns.TheConstants.{COLUMNS}
+use Rattle.kept_codes.specs.declared.cells.TheConstants.{COLUMNS}
 use Rattle.cell_columns.specs.Cells.{cells_only}
-use Rattle.cell_columns.specs.Gathered.{AllKeepOrAre, Gathers, InColumns}
+use Rattle.kept_codes.specs.Gathered.{Gathers, InColumns}
+use Rattle.cell_columns.specs.Shifted.{AllKeepOrAre, AllStayIn}
 use Rattle.cell_columns.specs.Lent.{codes_of, slots_of}
-use Rattle.cell_columns.specs.Shifted.{AllStayIn}
 use Rattle.cell_columns.specs.Uses.{codes_in}
 use Rattle.cell_columns.proofs.Visited.{keep_or_are, only_formulas, visited}
 use Rattle.cell_columns.proofs.columns.CellColumns.changing.Goals as goal

@@ -1,4 +1,4 @@
-use Rattle.std.proofs.Common.{◌≡◌, List, sym, ap, subst, ◌∙◌, map}
+use Rattle.std.proofs.Common.{◌≡◌, sym, ap, subst, ◌∙◌, map}
 use Rattle.formula_code.specs.Coded.{AreCoded, AreFormulasOf, CodeColumns}
 use Rattle.formula_groups.specs.GroupRows.{columns_of}
 use Rattle.cell_columns.specs.Cells.{cells_only}

@@ -2,7 +2,8 @@ use Rattle.std.proofs.Common.{◌≡◌, ℕ, ◌+◌, ◌*◌, sym, ap, subst, 
 use Rattle.std.proofs.lemmas.Result.{on_ok_weaker}
 use Rattle.calc_addr.specs.declared.cell.TheConstants.{LAST_COL}
 use Rattle.cell_columns.specs.Lent.{slots_of}
-use Rattle.cell_columns.specs.Shifted.{AllKeepForms, AllStayIn, PartlyMoved, sheet_of, shifted}
+use Rattle.kept_codes.specs.RowChanges.{sheet_of}
+use Rattle.cell_columns.specs.Shifted.{AllKeepForms, AllStayIn, PartlyMoved, shifted}
 use Rattle.cell_columns.proofs.BookShifted.{cells_after, still_columns}
 use Rattle.cell_columns.proofs.columns.CellColumns.shift.Goals as goal
 

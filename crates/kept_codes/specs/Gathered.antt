@@ -1,28 +1,20 @@
 -- The formulas of groups, and those of them that don't keep their codes with a change of rows.
-use Rattle.std.specs.Prelude.{◌≡◌, ◌≤◌, ◌<◌, ◌+◌, ℕ, min, Bool, true, List, [], ◌∷◌, ◌⊎◌, Option, slice_index_or}
+use Rattle.std.specs.Prelude.{◌≡◌, ◌≤◌, ◌<◌, ◌+◌, ◌-◌, ℕ, min, Bool, true, List, [], ◌∷◌, ◌⊎◌, Option, slice_index_or}
 use Rattle.std.specs.List.{list_all}
 use Rattle.calc_addr.specs.declared.cell.TheConstants.{LAST_ROW}
 use Rattle.calc_addr.specs.Places.{IsPlace, Place}
 use Rattle.calc_model.specs.declared.change.Change.{Change}
-use Rattle.calc_model.specs.declared.content.Content.TheVariants.{Formula}
-use Rattle.calc_model.specs.declared.tree.Tree.{Tree}
-use Rattle.calc_model.specs.Books.{content_at}
-use Rattle.calc_model.specs.CellEdits.{CellEntries}
 use Rattle.formula_code.specs.Codes.{Codes, IsCodeAt, form_at, tree_at}
 use Rattle.formula_code.specs.Relative.{relative}
 use Rattle.formula_groups.specs.declared.group.Group.{Group}
 use Rattle.formula_groups.specs.Groups.{groups_of}
-use Rattle.cell_columns.specs.Cells.{cell_in, cells_only}
-use Rattle.cell_columns.specs.Shifted.{KeepsForm, StaysIn, goes, tree_after}
+use Rattle.kept_codes.specs.Columns.{cell_in}
+use Rattle.kept_codes.specs.RowChanges.{StaysIn, goes, tree_after}
 
 -- the place is one of these
 abbrev pub Among : Place → List Place → Type 0
 Among q [] = ⊥
 Among q (p ∷ ps) = (p ≡ q) ⊎ Among q ps
-
--- one cell, with one code
-abbrev pub IsFormula : Place → ℕ → Place → ℕ → Type 0
-IsFormula home code q id = (q ≡ home) × (id ≡ code)
 
 -- a cell of some rows of a column, whose formula has the code
 pub record InRows (number first behind code : ℕ) (q : Place) (id : ℕ) : Type 0 where
@@ -52,6 +44,9 @@ pub record Formulas (codes : Codes) (change : Change) (q : Place) (id : ℕ) : T
   pub at : IsCodeAt codes id q
   pub stays : StaysIn change q
 
+abbrev pub AreFormulas : Codes → Change → (Place → ℕ → Type 0) → Type 0
+AreFormulas codes change visited = (q : Place) (id : ℕ) → visited q id → Formulas codes change q id
+
 -- the code serves the changed formula at the cell to which its cell goes
 abbrev pub KeepsCode : Codes → Change → ℕ → Place → Type 0
 KeepsCode codes change id q = relative (goes change q) (tree_after change q (tree_at codes id q)) ≡ form_at codes id
@@ -62,6 +57,16 @@ pub record Gathers (codes : Codes) (change : Change) (visited : Place → ℕ �
   pub told : (q : Place) (id : ℕ) → visited q id → KeepsCode codes change id q ⊎ Among q new
   pub only : (test : Place → Bool) → ((q : Place) (id : ℕ) → visited q id → test q ≡ true) → list_all test old ≡ true → list_all test new ≡ true
 
--- The relative form of each formula is the same afterwards, or its cell is one of these.
-abbrev pub AllKeepOrAre : Change → CellEntries → List Place → Type 0
-AllKeepOrAre change cells places = (q : Place) → IsPlace q → (tree : Tree) → content_at (cells_only cells) q ≡ Formula tree → KeepsForm change q tree ⊎ Among q places
+-- Of rows with one code those in front of one were visited, and the formula in it, if it is one of them, keeps its code.
+pub record IsFront (codes : Codes) (change : Change) (number code first behind : ℕ) (old new : List Place) (row : ℕ) : Type 0 where
+  pub from : first ≤ row
+  pub to : row ≤ behind
+  pub gathers : Gathers codes change (InRows number first row code) old new
+  pub keeps : row < behind → KeepsCode codes change code (cell_in number row)
+
+-- Those from one on were visited, and the formula above it, if it is one of them, keeps its code.
+pub record IsBack (codes : Codes) (change : Change) (number code first behind : ℕ) (old new : List Place) (row : ℕ) : Type 0 where
+  pub from : first ≤ row
+  pub to : row ≤ behind
+  pub gathers : Gathers codes change (InRows number row behind code) old new
+  pub keeps : first < row → KeepsCode codes change code (cell_in number (row - 1))

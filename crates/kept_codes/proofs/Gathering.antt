@@ -1,5 +1,5 @@
 -- The cells that are gathered from rows, groups and columns one after the other.
-use Rattle.std.proofs.Common.{◌≡◌, ℕ, suc, zero, ◌+◌, ◌≤◌, ◌<◌, ◌==◌, Bool, true, false, List, [], ◌∷◌, ◌++◌, length, take, Option, ◌⊎◌, inl, inr, refl, sym, ap, subst, ◌∙◌, arith}
+use Rattle.std.proofs.Common.{◌≡◌, ℕ, suc, zero, ◌+◌, ◌≤◌, ◌<◌, ◌==◌, nat_lt, Bool, true, false, List, [], ◌∷◌, ◌++◌, length, take, Option, ◌⊎◌, inl, inr, refl, sym, ap, subst, ◌∙◌, arith}
 use Rattle.std.specs.Prelude.{slice_index_or}
 use Rattle.std.specs.List.{list_all}
 use Rattle.std.proofs.lemmas.Bool.Decides.{nat_tests}
@@ -10,8 +10,8 @@ use Rattle.calc_model.proofs.EntriesKept.{both_so}
 use Rattle.formula_code.specs.Codes.{Codes}
 use Rattle.formula_groups.specs.declared.group.Group.{Group}
 use Rattle.formula_groups.specs.Groups.{groups_of}
-use Rattle.cell_columns.specs.Cells.{cell_in}
-use Rattle.cell_columns.specs.Gathered.{Among, Gathers, InColumns, InGroups, InRows, IsFormula, KeepsCode, behind_of}
+use Rattle.kept_codes.specs.Columns.{cell_in}
+use Rattle.kept_codes.specs.Gathered.{Among, AreFormulas, Formulas, Gathers, InColumns, InGroups, InRows, KeepsCode, behind_of}
 
 among_more : (q p : Place) (ps : List Place) → Among q ps → Among q (ps ++ p ∷ [])
 among_more q p [] h = absurd h
@@ -29,21 +29,8 @@ all_more test p (x ∷ ps) h is =
     both_so (test x) _ parts.0 (all_more test p ps parts.1 is)
 
 module _ (codes : Codes) (change : Change) where
-  pub gathers_none : (visited : Place → ℕ → Type 0) (old : List Place) → ((q : Place) (id : ℕ) → visited q id → ⊥) → Gathers codes change visited old old
-  gathers_none visited old none = record {
-    kept = λ q h. h;
-    told = λ q id h. absurd (none q id h);
-    only = λ test each all. all;
-  }
-
-  pub rows_end : (number first code row behind : ℕ) (old new : List Place) → row ≡ behind → Gathers codes change (InRows number first row code) old new → Gathers codes change (InRows number first behind code) old new
-  rows_end number first code row behind old new is so_far = subst (λ n. Gathers codes change (InRows number first n code) old new) is so_far
-
-  pub no_rows : (number first code behind : ℕ) → behind ≤ first → (q : Place) (id : ℕ) → InRows number first behind code q id → ⊥
-  no_rows number first code behind none q id h = absurd (omega (arith, h.from, h.to, none))
-
   -- what is visited by one and then by another
-  pub gathers_then : (first second both : Place → ℕ → Type 0) (old mid new : List Place) → Gathers codes change first old mid → Gathers codes change second mid new → ((q : Place) (id : ℕ) → both q id → first q id ⊎ second q id) → ((q : Place) (id : ℕ) → first q id → both q id) → ((q : Place) (id : ℕ) → second q id → both q id) → Gathers codes change both old new
+  gathers_then : (first second both : Place → ℕ → Type 0) (old mid new : List Place) → Gathers codes change first old mid → Gathers codes change second mid new → ((q : Place) (id : ℕ) → both q id → first q id ⊎ second q id) → ((q : Place) (id : ℕ) → first q id → both q id) → ((q : Place) (id : ℕ) → second q id → both q id) → Gathers codes change both old new
   gathers_then first second both old mid new one two split front back = record {
     kept = λ q h. two.kept q (one.kept q h);
     told = λ q id h. elim (split q id h) as (λ _. KeepsCode codes change id q ⊎ Among q new) [
@@ -57,39 +44,59 @@ module _ (codes : Codes) (change : Change) where
       earlier q (inl h) = inl h
       earlier q (inr h) = inr (two.kept q h)
 
-  pub one_kept : (home : Place) (code : ℕ) (old : List Place) → KeepsCode codes change code home → Gathers codes change (IsFormula home code) old old
-  one_kept home code old keeps = record {
+  -- formulas that keep their codes add nothing
+  pub gathers_kept : (visited : Place → ℕ → Type 0) (old : List Place) → ((q : Place) (id : ℕ) → visited q id → KeepsCode codes change id q) → Gathers codes change visited old old
+  gathers_kept visited old keeps = record {
     kept = λ q h. h;
-    told = λ q id h. inl (subst (λ p. KeepsCode codes change id p) (sym h.0) (subst (λ i. KeepsCode codes change i home) (sym h.1) keeps));
+    told = λ q id h. inl (keeps q id h);
     only = λ test each all. all;
   }
 
-  pub one_added : (home : Place) (code : ℕ) (old : List Place) → Gathers codes change (IsFormula home code) old (old ++ home ∷ [])
-  one_added home code old = record {
-    kept = λ q h. among_more q home old h;
-    told = λ q id h. inr (subst (λ p. Among p (old ++ home ∷ [])) (sym h.0) (among_last home old));
-    only = λ test each all. all_more test home old all (each home code (refl, refl));
-  }
+  module _ (number code : ℕ) where
+    pub a_formula : (first behind row : ℕ) → AreFormulas codes change (InRows number first behind code) → first ≤ row → row < behind → Formulas codes change (cell_in number row) code
+    a_formula first behind row formulas low high = formulas (cell_in number row) code (record { row = row; from = low; to = high; at = refl; coded = refl })
 
-  module _ (number first code row : ℕ) (began : first ≤ row) (old mid new : List Place) (so_far : Gathers codes change (InRows number first row code) old mid) (here : Gathers codes change (IsFormula (cell_in number row) code) mid new) where
-    pub row_more : Gathers codes change (InRows number first (row + 1) code) old new
-    row_more = gathers_then (InRows number first row code) (IsFormula (cell_in number row) code) (InRows number first (row + 1) code) old mid new so_far here split front back
+    -- some of these rows
+    pub some_formulas : (first behind x y : ℕ) → AreFormulas codes change (InRows number first behind code) → first ≤ x → y ≤ behind → AreFormulas codes change (InRows number x y code)
+    some_formulas first behind x y formulas low high q id h = formulas q id (record { row = h.row; from = omega (arith, low, h.from); to = omega (arith, high, h.to); at = h.at; coded = h.coded })
+
+    -- rows without any
+    pub none_gathered : (row : ℕ) (old : List Place) → Gathers codes change (InRows number row row code) old old
+    none_gathered row old = gathers_kept (InRows number row row code) old (λ q id h. absurd (omega (arith, h.from, h.to)))
+
+    pub one_gathered : (row : ℕ) (old : List Place) → Gathers codes change (InRows number row (row + 1) code) old (old ++ cell_in number row ∷ [])
+    one_gathered row old = record {
+      kept = λ q h. among_more q (cell_in number row) old h;
+      told = λ q id h. inr (subst (λ p. Among p (old ++ cell_in number row ∷ [])) (sym (h.at ∙ ap (cell_in number) (same h.row h.from h.to))) (among_last (cell_in number row) old));
+      only = λ test each all. all_more test (cell_in number row) old all (each (cell_in number row) code (record { row = row; from = omega arith; to = omega arith; at = refl; coded = refl }));
+    }
       where
-        split : (q : Place) (id : ℕ) → InRows number first (row + 1) code q id → InRows number first row code q id ⊎ IsFormula (cell_in number row) code q id
-        split q id h =
-            elim (h.row == row) as (λ b. (h.row == row) ≡ b → InRows number first row code q id ⊎ IsFormula (cell_in number row) code q id) [
-              | true ↦ λ is. inr (h.at ∙ ap (cell_in number) (same h.row is), h.coded)
-              | false ↦ λ other. inl (record { row = h.row; from = h.from; to = grind (arith, nat_tests, h.to, other); at = h.at; coded = h.coded })
-            ] refl
-          where
-            same : (r : ℕ) → (r == row) ≡ true → r ≡ row
-            same r is = grind (arith, nat_tests, is)
+        same : (r : ℕ) → row ≤ r → r < row + 1 → r ≡ row
+        same r low high = omega (arith, low, high)
 
-        front : (q : Place) (id : ℕ) → InRows number first row code q id → InRows number first (row + 1) code q id
-        front q id h = record { row = h.row; from = h.from; to = omega (arith, h.to); at = h.at; coded = h.coded }
+    module _ (first middle behind : ℕ) (low : first ≤ middle) (high : middle ≤ behind) where
+      upper : (q : Place) (id : ℕ) → InRows number first middle code q id → InRows number first behind code q id
+      upper q id h = record { row = h.row; from = h.from; to = omega (arith, h.to, high); at = h.at; coded = h.coded }
 
-        back : (q : Place) (id : ℕ) → IsFormula (cell_in number row) code q id → InRows number first (row + 1) code q id
-        back q id h = record { row = row; from = began; to = omega arith; at = h.0; coded = h.1 }
+      lower : (q : Place) (id : ℕ) → InRows number middle behind code q id → InRows number first behind code q id
+      lower q id h = record { row = h.row; from = omega (arith, h.from, low); to = h.to; at = h.at; coded = h.coded }
+
+      split : (q : Place) (id : ℕ) → InRows number first behind code q id → InRows number first middle code q id ⊎ InRows number middle behind code q id
+      split q id h =
+          elim (nat_lt h.row middle) as (λ b. nat_lt h.row middle ≡ b → InRows number first middle code q id ⊎ InRows number middle behind code q id) [
+            | true ↦ λ less. inl (record { row = h.row; from = h.from; to = grind (arith, nat_tests, less); at = h.at; coded = h.coded })
+            | false ↦ λ more. inr (record { row = h.row; from = grind (arith, nat_tests, more); to = h.to; at = h.at; coded = h.coded })
+          ] refl
+
+      turned : (q : Place) (id : ℕ) → InRows number first behind code q id → InRows number middle behind code q id ⊎ InRows number first middle code q id
+      turned q id h = elim (split q id h) as (λ _. InRows number middle behind code q id ⊎ InRows number first middle code q id) [ inl there ↦ inr there | inr there ↦ inl there ]
+
+      -- neighbouring rows, from the top or from the bottom
+      pub rows_then : (old mid new : List Place) → Gathers codes change (InRows number first middle code) old mid → Gathers codes change (InRows number middle behind code) mid new → Gathers codes change (InRows number first behind code) old new
+      rows_then old mid new one two = gathers_then (InRows number first middle code) (InRows number middle behind code) (InRows number first behind code) old mid new one two split upper lower
+
+      pub rows_before : (old mid new : List Place) → Gathers codes change (InRows number middle behind code) old mid → Gathers codes change (InRows number first middle code) mid new → Gathers codes change (InRows number first behind code) old new
+      rows_before old mid new one two = gathers_then (InRows number middle behind code) (InRows number first middle code) (InRows number first behind code) old mid new one two turned lower upper
 
   groups_more : (number : ℕ) (groups : List Group) (i : ℕ) (d : Group) → i < length groups → (q : Place) (id : ℕ) → InGroups number (take (suc i) groups) q id → InGroups number (take i groups) q id ⊎ InRows number (slice_index_or groups i d).first (behind_of (slice_index_or groups i d)) (slice_index_or groups i d).code q id
   groups_more number [] i d h q id within = absurd (omega (arith, h))

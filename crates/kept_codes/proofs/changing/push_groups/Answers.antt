@@ -1,8 +1,8 @@
 use Rattle.std.proofs.Common.{subst}
 use Rattle.formula_groups.specs.declared.group.Group.{Group}
-use Rattle.cell_columns.specs.Gathered.{Gathers, InRows, behind_of}
-use Rattle.cell_columns.proofs.Gathering.{group_more, in_all_groups}
-use Rattle.cell_columns.proofs.changing.push_groups.Goals as goal
+use Rattle.kept_codes.specs.Gathered.{Gathers, InRows, behind_of}
+use Rattle.kept_codes.proofs.Gathering.{group_more, in_all_groups}
+use Rattle.kept_codes.proofs.changing.push_groups.Goals as goal
 
 pub push_group-requires-clause-formulas : goal.push_group-requires-clause-formulas
 push_group-requires-clause-formulas c q id within =
