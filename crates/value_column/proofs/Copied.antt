@@ -10,7 +10,7 @@ use Rattle.value_column.specs.declared.lane.Tag.TheVariants as tag
 use Rattle.value_column.specs.declared.lanes.Lanes.{Lanes}
 use Rattle.value_column.specs.Rows.{value_in, value_at, written}
 
-pub put-rows : {T : Type 0} (xs vs : List T) (d e : T) (a b r : ℕ) → a + length vs ≡ b → b ≤ length xs → get_or (take a xs ++ (vs ++ drop b xs)) r d ≡ cond (nat_le a r && nat_lt r b) (get_or vs (r - a) e) (get_or xs r d)
+pub put-rows : {T : Type 0} (xs vs : List T) (d e : T) (a b r : ℕ) → a + length vs ≡ b → a ≤ length xs → get_or (take a xs ++ (vs ++ drop b xs)) r d ≡ cond (nat_le a r && nat_lt r b) (get_or vs (r - a) e) (get_or xs r d)
 put-rows {T} xs vs d e a b r end within = at (cases_lt r a) (cases_lt r b)
   where
     front : length (take a xs) ≡ a
@@ -41,7 +41,7 @@ small-choice true t n s w x f = refl
 small-choice false t n s w x f = refl
 
 -- the rows with numbers copied in
-pub copied : (t u : Lanes) (a b : ℕ) (items : List ℤ) → a + length items ≡ b → b ≤ vec_len t.tags → b ≤ vec_len t.small
+pub copied : (t u : Lanes) (a b : ℕ) (items : List ℤ) → a + length items ≡ b → a ≤ vec_len t.tags → a ≤ vec_len t.small
     → u.tags.items ≡ take a t.tags.items ++ (replicate (b - a) tag.Small ++ drop b t.tags.items) → u.small.items ≡ take a t.small.items ++ (items ++ drop b t.small.items) → u.wide ≡ t.wide → u.words ≡ t.words → u.bad ≡ t.bad
     → (r : ℕ) → value_at u r ≡ written a (length items) (λ k. value.Number (get_or items k (pos 0))) (value_at t) r
 copied t u a b items end tags_in small_in tags small wide words bad r =

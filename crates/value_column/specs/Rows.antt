@@ -78,6 +78,11 @@ pub record IsReady (t : Lanes) (r : ℕ) (g : Tag) : Type 0 where
   pub tags : r < vec_len t.tags
   pub lane : LaneHas t r g
 
+-- tags and small numbers reach row a, and have room for the rows in front of row b
+pub record IsOpenTo (t : Lanes) (a b : ℕ) : Type 0 where
+  pub tags : (a ≤ vec_len t.tags) × (b ≤ vec_capacity t.tags)
+  pub small : (a ≤ vec_len t.small) × (b ≤ vec_capacity t.small)
+
 -- no lane is shorter, nor has less room
 pub record IsLonger (old new : Lanes) : Type 0 where
   pub tags : (vec_len old.tags ≤ vec_len new.tags) × (vec_capacity old.tags ≤ vec_capacity new.tags)

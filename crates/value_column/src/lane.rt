@@ -76,14 +76,14 @@ impl Plain for Fault {
     }
 }
 
-/// Room for as many rows as a sheet has.
-pub(crate) fn make_room<T>(lane: &mut Vec<T>) -> Result<(), NoMemory>
+/// Room for so many rows.
+pub(crate) fn make_room<T>(lane: &mut Vec<T>, rows: usize) -> Result<(), NoMemory>
     ensures items { lane.new.items ≡ lane.old.items }
     ensures len { vec_len lane.new ≡ vec_len lane.old }
     ensures capacity { vec_capacity lane.old ≤ vec_capacity lane.new }
-    ensures ok { OnOk result (LAST_ROW ≤ vec_capacity lane.new) }
+    ensures ok { OnOk result (rows ≤ vec_capacity lane.new) }
 {
-    lane.reserve((LAST_ROW as usize).saturating_sub(lane.len()))
+    lane.reserve(rows.saturating_sub(lane.len()))
 }
 
 /// Makes a lane at least so long.

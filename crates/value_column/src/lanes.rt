@@ -1,4 +1,4 @@
-ghost use Rattle.std.specs.Prelude.{◌≡◌, ◌≢◌, ℕ, ◌≤◌, ◌<◌, ◌+◌, ◌-◌, ◌++◌, take, drop, replicate, length, pos, true, ◌↔◌, IsTrue, vec_len, OnOk, OnErr, IsOk, List, slice_index_or};
+ghost use Rattle.std.specs.Prelude.{◌≡◌, ◌≢◌, ℕ, ◌≤◌, ◌<◌, ◌+◌, ◌-◌, ◌++◌, take, drop, replicate, length, max, pos, true, ◌↔◌, IsTrue, vec_len, OnOk, OnErr, IsOk, List, slice_index_or};
 ghost use Rattle.calc_addr.specs.declared.cell.TheConstants.{LAST_ROW};
 ghost use Rattle.calc_model.specs.UsedCells.{values_of};
 ghost use Rattle.calc_model.specs.ValueTexts.{lent};
@@ -13,7 +13,7 @@ use crate::item::Item;
 use crate::lane::{Tag, close_rows, grow, make_room, open_rows, room_to_open};
 use crate::numbers::{number, small_number};
 use crate::span::ValueSpan;
-use calc_addr::NoMemory;
+use calc_addr::{LAST_ROW, NoMemory};
 use calc_model::{Fault, Piece, Seen, Text};
 use std::alloc::Global;
 
@@ -49,23 +49,42 @@ fn are_small(items: &[i64]) -> bool
 /// Gives neighbouring rows a tag.
 pub(crate) fn put_tags(tags: &mut Vec<Tag>, first: usize, end: usize, tag: Tag)
     requires order { first ≤ end }
-    requires within { end ≤ vec_len tags.old }
+    requires from { first ≤ vec_len tags.old }
+    requires room { end ≤ vec_capacity tags.old }
     ensures tags { tags.new.items ≡ take first tags.old.items
         ++ (replicate (end - first) tag ++ drop end tags.old.items) }
-    ensures len { vec_len tags.new ≡ vec_len tags.old }
-    ensures capacity { vec_capacity tags.new ≡ vec_capacity tags.old }
+    ensures len { vec_len tags.new ≡ max (vec_len tags.old) end }
+    ensures capacity { vec_capacity tags.old ≤ vec_capacity tags.new }
 {
-    tags[first..end].fill(tag);
+    if end <= tags.len() {
+        tags[first..end].fill(tag);
+        return;
+    }
+    tags.truncate(first);
+    match tags.resize(end, tag) {
+        Ok(()) => {}
+        Err(_) => unreachable!(),
+    }
 }
 
 /// Puts items in the rows behind the first ones.
 pub(crate) fn put_items(lane: &mut Vec<i64>, from: usize, items: &[i64])
-    requires { from + length items.now ≤ vec_len lane.old }
+    requires from { from ≤ vec_len lane.old }
+    requires room { from + length items.now ≤ vec_capacity lane.old }
     ensures items { lane.new.items ≡ take from lane.old.items
         ++ (items.now ++ drop (from + length items.now) lane.old.items) }
-    ensures len { vec_len lane.new ≡ vec_len lane.old }
+    ensures len { vec_len lane.new ≡ max (vec_len lane.old) (from + length items.now) }
 {
-    lane[from..from + items.len()].copy_from_slice(items);
+    let end = from + items.len();
+    if end <= lane.len() {
+        lane[from..end].copy_from_slice(items);
+        return;
+    }
+    lane.truncate(from);
+    match lane.extend_from_slice(items) {
+        Ok(()) => {}
+        Err(_) => unreachable!(),
+    }
 }
 
 /// Makes the tags of rows blank.
@@ -73,7 +92,7 @@ fn clear_tags(tags: &mut Vec<Tag>, first: usize, end: usize)
     ensures tags { (r : ℕ) → slice_index_or tags.new.items r tag.Blank
         ≡ untagged first end (λ q. slice_index_or tags.old.items q tag.Blank) r }
     ensures len { vec_len tags.new ≡ vec_len tags.old }
-    ensures capacity { vec_capacity tags.new ≡ vec_capacity tags.old }
+    ensures capacity { vec_capacity tags.old ≤ vec_capacity tags.new }
 {
     let end = end.min(tags.len());
     if first < end {
@@ -235,11 +254,11 @@ impl Lanes {
         ensures same { (r : ℕ) → value_at self.new r ≡ value_at self.old r }
         ensures ok { OnOk result (HasRoom self.new) }
     {
-        make_room(&mut self.tags)?;
-        make_room(&mut self.small)?;
-        make_room(&mut self.wide)?;
-        make_room(&mut self.words)?;
-        make_room(&mut self.bad)
+        make_room(&mut self.tags, LAST_ROW as usize)?;
+        make_room(&mut self.small, LAST_ROW as usize)?;
+        make_room(&mut self.wide, LAST_ROW as usize)?;
+        make_room(&mut self.words, LAST_ROW as usize)?;
+        make_room(&mut self.bad, LAST_ROW as usize)
     }
 
     /// Makes the lanes reach a row that is to have a tag.

@@ -1,10 +1,10 @@
 ghost use Rattle.std.specs.Prelude.{◌≡◌, ◌≢◌, ℕ, ◌≤◌, ◌<◌, ◌+◌, ◌-◌, length, pos, vec_len, OnOk, OnErr, IsOk, slice_index_or};
 ghost use Rattle.calc_addr.specs.declared.cell.TheConstants.{LAST_ROW};
 ghost use Rattle.calc_model.specs.declared.value.Value.TheVariants as value;
-ghost use Rattle.value_column.specs.Rows.{AreLanes, AreReady, HasRoom, IsItem, IsLonger, item_value, value_at, written};
+ghost use Rattle.value_column.specs.Rows.{AreLanes, AreReady, HasRoom, IsItem, IsLonger, IsOpenTo, item_value, value_at, written};
 
 use crate::item::{Item, tag_for};
-use crate::lane::Tag;
+use crate::lane::{Tag, grow, make_room};
 use crate::lanes::{Lanes, put_items, put_tags};
 use calc_addr::NoMemory;
 use calc_model::Value;
@@ -29,6 +29,21 @@ impl Lanes {
         Ok(())
     }
 
+    /// Makes the lanes of small numbers reach a row, with room up to an end.
+    fn ready_small(&mut self, alloc: Global, from: usize, end: usize) -> Result<(), NoMemory>
+        requires lanes { AreLanes self.old }
+        requires order { from ≤ end }
+        requires within { end ≤ LAST_ROW }
+        ensures lanes { AreLanes self.new }
+        ensures same { (r : ℕ) → value_at self.new r ≡ value_at self.old r }
+        ensures ok { OnOk result (IsOpenTo self.new from end) }
+    {
+        make_room(&mut self.tags, end)?;
+        make_room(&mut self.small, end)?;
+        grow(alloc, &mut self.tags, from)?;
+        grow(alloc, &mut self.small, from)
+    }
+
     /// Makes neighbouring rows show small numbers.
     pub(crate) fn put_small(
         &mut self,
@@ -44,12 +59,10 @@ impl Lanes {
             (λ k. value.Number (slice_index_or items.now k (pos 0))) (value_at self.old) r) }
         ensures err { OnErr result ((r : ℕ) → value_at self.new r ≡ value_at self.old r) }
     {
-        if items.is_empty() {
-            return Ok(());
-        }
-        self.ready(alloc, from + items.len() - 1, Tag::Small)?;
+        let end = from + items.len();
+        self.ready_small(alloc, from, end)?;
         put_items(&mut self.small, from, items);
-        put_tags(&mut self.tags, from, from + items.len(), Tag::Small);
+        put_tags(&mut self.tags, from, end, Tag::Small);
         Ok(())
     }
 
