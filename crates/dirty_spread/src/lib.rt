@@ -1,0 +1,6 @@
+//! Which formulas are stale after an edit, and in which order stale formulas are calculated.
+#![tactic(auto)]
+
+mod marking;
+mod spreading;
+
