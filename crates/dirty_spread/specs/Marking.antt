@@ -69,6 +69,10 @@ IsFormulaIn cells area q = Contains cells q × (covers area q ≡ true)
 abbrev pub IsFormulaInAny : List Place → List Rectangle → Place → Type 0
 IsFormulaInAny cells areas q = Contains cells q × (is_touched q areas ≡ true)
 
+-- the area of a run's cells
+abbrev pub area_of : Rows → Rectangle
+area_of run = record { sheet = run.sheet; first_col = run.col; last_col = run.col; first_row = run.first; last_row = run.last }
+
 -- the cell reads a cell of one of the areas
 abbrev pub reads_any_of : ReadAreas → List Rectangle → Place → Bool
 reads_any_of read areas q = list_any (λ area. reads_one_of read area q) areas

@@ -1,8 +1,8 @@
 ghost use Rattle.std.specs.Prelude.{◌≡◌, ◌≤◌, ◌<◌, ◌↔◌, ℕ, false, length, true, IfOk, OnOk};
 ghost use Rattle.calc_addr.specs.Places.{Place};
 ghost use Rattle.calc_model.specs.Listeners.{ReachesArea, reads_one_of};
-ghost use Rattle.dirty_spread.specs.Marking.{Marks};
-ghost use Rattle.dirty_spread.specs.Spreading.{AreFormulas};
+ghost use Rattle.dirty_spread.specs.Marking.{Marks, area_of, has_mark, is_in_any, reads_any_of};
+ghost use Rattle.dirty_spread.specs.Spreading.{AreFormulas, IsStale};
 
 use crate::marking::{mark_areas, mark_run};
 use calc_addr::{Area, NoMemory, Run};
@@ -12,8 +12,7 @@ use std::alloc::Global;
 
 /// The area of a run's cells.
 fn area_of(run: Run) -> Area
-    ensures { result ≡ record { sheet = run.sheet; first_col = run.col; last_col = run.col;
-        first_row = run.first; last_row = run.last } }
+    ensures { result ≡ area_of run }
 {
     Area {
         sheet: run.sheet,
@@ -47,4 +46,56 @@ fn follow<H: Dependents>(
         mark_run(formulas, run, marks, found)?;
     }
     Ok(())
+}
+
+/// The same for several areas.
+fn follow_areas<H: Dependents>(
+    areas: &[Area],
+    formulas: &CellRuns,
+    hub: &H,
+    reached: &mut Vec<Run>,
+    marks: &mut [bool],
+    found: &mut Vec<Run>,
+) -> Result<(), NoMemory>
+    requires formulas { AreFormulas (H.areas hub.now) formulas.now }
+    requires ready { H.ready hub.now ≡ true }
+    requires size { length marks.old ≡ length formulas.now }
+    ensures { OnOk result (Marks formulas.now
+        (λ q. reads_any_of (H.areas hub.now) areas.now q ≡ true)
+        (IsStale (H.areas hub.now) areas.now)
+        marks.old marks.new found.old.items found.new.items) }
+{
+    for area in areas {
+        follow(*area, formulas, hub, reached, marks, found)?;
+    }
+    Ok(())
+}
+
+/// Runs of the stale cells, each cell in one, found in the order in which they reach one another. Nothing
+/// is marked before.
+fn search<H: Dependents>(
+    alloc: Global,
+    touched: &[Area],
+    formulas: &CellRuns,
+    hub: &H,
+    marks: &mut [bool],
+) -> Result<Vec<Run>, NoMemory>
+    requires formulas { AreFormulas (H.areas hub.now) formulas.now }
+    requires ready { H.ready hub.now ≡ true }
+    requires size { length marks.old ≡ length formulas.now }
+    requires fresh { (i : ℕ) → has_mark marks.old i ≡ false }
+    ensures { IfOk result (λ found. (q : Place) → (is_in_any q found.items ≡ true)
+        ↔ IsStale (H.areas hub.now) touched.now q) }
+{
+    let mut found = Vec::new(alloc);
+    mark_areas(formulas, touched, marks, &mut found)?;
+    let mut head = found.len();
+    let mut reached = Vec::new(alloc);
+    follow_areas(touched, formulas, hub, &mut reached, marks, &mut found)?;
+    while head < found.len() {
+        let area = area_of(found[head]);
+        head += 1;
+        follow(area, formulas, hub, &mut reached, marks, &mut found)?;
+    }
+    Ok(found)
 }

@@ -5,4 +5,4 @@ use Rattle.dirty_spread.proofs.spreading.follow.Given as goal
 
 abbrev pub invariant-loop-run : goal.invariant-loop-run
 invariant-loop-run g l =
-    Marks l.formulas (λ q. is_in_any q (take l.run-index l.run-items) ≡ true) (ReachesArea (g.H.Dependents.areas l.hub) l.area) l.initial.marks l.marks l.initial.found.items l.found.items
+    Marks l.formulas (λ q. is_in_any q (take l.run-index l.run-items) ≡ true) (ReachesArea (g.H.Dependents.areas l.hub) l.fn.area) l.initial.marks l.marks l.initial.found.items l.found.items
