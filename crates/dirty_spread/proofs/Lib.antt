@@ -2,11 +2,15 @@
 -- Fronts: marks of the first rows of a run.
 -- Listing: the places of a run's cells in a list in order.
 -- Reading: which cells are formula cells, and which are stale, by what they read.
+-- SpreadExamples: worked examples of stale cells.
 -- Spreads: what a search of stale cells has found.
 -- Stepping: marks one after the other.
+-- Sweeps: one run more of those whose cells stand in a list.
 pub mod Cells
 pub mod Fronts
 pub mod Listing
 pub mod Reading
+mod SpreadExamples
 pub mod Spreads
 pub mod Stepping
+pub mod Sweeps

@@ -43,10 +43,16 @@ module _ (read : ReadAreas) where
     pub stale_step : (q p : Place) → reads_cell read q p ≡ true → Any (LiesInOrReaches read p) touched → IsStale read touched q
     stale_step q p h (k, area, within, is, spread) = record {
       formula = reader_is_formula q p h;
-      spread = (k, area, within, is, inr (⊎_elim
-          (λ (lies : covers area p ≡ true). ReachesArea.directly (reads_one area q p lies h))
-          (λ (reaches : ReachesArea read area p). ReachesArea.through h reaches)
-          spread));
+      spread = (
+        k,
+        area,
+        within,
+        is,
+        inr (⊎_elim
+            (λ (lies : covers area p ≡ true). ReachesArea.directly (reads_one area q p lies h))
+            (λ (reaches : ReachesArea read area p). ReachesArea.through h reaches)
+            spread),
+      );
     }
 
     -- what reaches an area of stale cells is stale

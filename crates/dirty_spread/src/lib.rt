@@ -3,4 +3,6 @@
 
 mod marking;
 mod spreading;
+mod union;
 
+pub use spreading::spread;

@@ -2,9 +2,10 @@ ghost use Rattle.std.specs.Prelude.{◌≡◌, ◌≤◌, ◌<◌, ◌↔◌, �
 ghost use Rattle.calc_addr.specs.Places.{Place};
 ghost use Rattle.calc_model.specs.Listeners.{ReachesArea, reads_one_of};
 ghost use Rattle.dirty_spread.specs.Marking.{Marks, area_of, has_mark, is_in_any, reads_any_of};
-ghost use Rattle.dirty_spread.specs.Spreading.{AreFormulas, IsStale};
+ghost use Rattle.dirty_spread.specs.Spreading.{AreFormulas, AreStale, IsStale};
 
 use crate::marking::{mark_areas, mark_run};
+use crate::union::union;
 use calc_addr::{Area, NoMemory, Run};
 use calc_model::Dependents;
 use cell_runs::CellRuns;
@@ -98,4 +99,29 @@ fn search<H: Dependents>(
         follow(area, formulas, hub, &mut reached, marks, &mut found)?;
     }
     Ok(found)
+}
+
+/// The formula cells that lie in a touched area or reach one by reading, each once, in the order of
+/// cells. `workers` is how many threads may search; so far the calling one searches alone.
+///
+/// Each stale cell is asked for its readers once, in whole runs where they were found so. Beside that it
+/// is linear in the runs of stale cells, with a sort of them, and takes a byte a formula cell.
+pub fn spread<H: Dependents>(
+    alloc: Global,
+    workers: u32,
+    touched: &[Area],
+    formulas: &CellRuns,
+    hub: &H,
+) -> Result<CellRuns, NoMemory>
+    requires formulas { AreFormulas (H.areas hub.now) formulas.now }
+    requires most { length formulas.now ≤ 4194304 }
+    requires ready { H.ready hub.now ≡ true }
+    requires some { 1 ≤ workers }
+    requires few { workers ≤ 64 }
+    ensures { IfOk result (AreStale (H.areas hub.now) touched.now) }
+{
+    let _ = workers;
+    let mut marks = vec![in alloc; false; formulas.len()]?;
+    let found = search(alloc, touched, formulas, hub, &mut marks)?;
+    union(alloc, found)
 }
