@@ -1,5 +1,5 @@
 -- Which cells are formula cells, and which are stale, by what they read.
-use Rattle.std.proofs.Common.{◌≡◌, ℕ, ◌<◌, ◌⊎◌, Bool, true, false, List, [], ◌∷◌, length, get_or, Option, Some, None, inl, inr, refl, sym, ap, subst, ◌∙◌, ⊎_elim}
+use Rattle.std.proofs.Common.{◌≡◌, ℕ, ◌<◌, Bool, true, List, length, get_or, Option, Some, None, inl, inr, sym, subst, ⊎_elim}
 use Rattle.std.specs.Prelude.{IsSome}
 use Rattle.std.specs.List.{Any, Contains, list_any}
 use Rattle.std.proofs.lemmas.Bool.{false≢true}
@@ -9,7 +9,7 @@ use Rattle.calc_addr.proofs.Walking.Places.{Contains-places, covers-contained}
 use Rattle.calc_model.specs.Listeners.{AreReached, ReachesArea, ReadAreas, cells_of_runs, listed, reads_one_of}
 use Rattle.run_unions.specs.Unions.{is_in}
 use Rattle.dirty_spread.specs.Spreading.{AreFormulas, IsStale, LiesInOrReaches}
-use Rattle.dirty_spread.specs.Marking.{is_in_any, is_touched, reads_any_of, reads_cell}
+use Rattle.dirty_spread.specs.Marking.{is_in_any, is_touched, reads_cell}
 use Rattle.dirty_spread.proofs.Cells.{in_runs, runs_in}
 
 some_listed : (o : Option (List Rectangle)) (f : Rectangle → Bool) → list_any f (listed o) ≡ true → IsSome o

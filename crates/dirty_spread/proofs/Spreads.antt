@@ -1,7 +1,7 @@
 -- What a search of stale cells has found: at first, one run more, and in the end.
-use Rattle.std.proofs.Common.{◌≡◌, ℕ, ◌+◌, ◌<◌, ◌≤◌, ◌⊎◌, ◌||◌, ◌&&◌, Bool, true, false, nat_le, List, [], ◌∷◌, ◌++◌, length, get_or, take, inl, inr, refl, sym, ap, subst, ◌∙◌, ⊎_elim, add-one, arith}
-use Rattle.std.specs.Prelude.{◌==◌, ◌↔◌, IsSome}
-use Rattle.std.specs.List.{Any, Contains, list_any}
+use Rattle.std.proofs.Common.{◌≡◌, ℕ, ◌+◌, ◌<◌, ◌≤◌, ◌||◌, Bool, true, false, List, [], ◌++◌, length, get_or, take, sym, ap, subst, ◌∙◌, ⊎_elim, arith}
+use Rattle.std.specs.Prelude.{◌↔◌}
+use Rattle.std.specs.List.{Any}
 use Rattle.std.proofs.lemmas.Bool.{false≢true, or_cases}
 use Rattle.std.proofs.lemmas.Bool.Decides.{nat_tests}
 use Rattle.std.proofs.lemmas.List.{take_all, take-append-le}
@@ -10,7 +10,7 @@ use Rattle.calc_addr.specs.Places.{Place, Rectangle, Rows, covers}
 use Rattle.calc_model.specs.Listeners.{ReachesArea, ReadAreas, reads_one_of}
 use Rattle.run_unions.specs.Unions.{is_in}
 use Rattle.dirty_spread.specs.Spreading.{AreFormulas, IsStale, LiesInOrReaches}
-use Rattle.dirty_spread.specs.Marking.{AreReadersMarked, IsFormulaInAny, IsMarked, IsSpreading, Marks, area_of, fresh, has_mark, is_in_any, is_touched, reads_any_of, reads_cell}
+use Rattle.dirty_spread.specs.Marking.{AreReadersMarked, IsFormulaInAny, IsMarked, IsSpreading, Marks, area_of, has_mark, is_in_any, is_touched, reads_any_of}
 use Rattle.dirty_spread.proofs.Fronts.{or_left, or_right}
 use Rattle.dirty_spread.proofs.Reading.{read_one, reads_one, reaching_is_stale, touched_is_stale}
 

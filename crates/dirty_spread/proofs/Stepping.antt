@@ -1,14 +1,14 @@
 -- Marks of a run, and marks one after the other.
-use Rattle.std.proofs.Common.{◌≡◌, ℕ, ◌+◌, ◌-◌, ◌<◌, ◌≤◌, ◌⊎◌, Bool, true, false, ◌&&◌, ◌||◌, nat_le, nat_lt, List, [], ◌++◌, length, get_or, inl, inr, refl, sym, ap, subst, ◌∙◌, append_assoc, append-nil, ⊎_elim, length-append, arith}
+use Rattle.std.proofs.Common.{◌≡◌, ℕ, ◌+◌, ◌-◌, ◌<◌, ◌≤◌, ◌⊎◌, Bool, true, false, ◌&&◌, nat_le, nat_lt, List, [], ◌++◌, length, inl, inr, refl, sym, ap, subst, ◌∙◌, append_assoc, append-nil, ⊎_elim, length-append, arith}
 use Rattle.std.specs.Prelude.{◌==◌}
-use Rattle.std.specs.List.{AllPairs, Contains, list_any}
-use Rattle.std.proofs.lemmas.Bool.{and_from, and_parts, cases_Bool, eqb-true, leb-true, or_cases}
+use Rattle.std.specs.List.{AllPairs, Contains}
+use Rattle.std.proofs.lemmas.Bool.{and_parts, cases_Bool, eqb-true, leb-true, or_cases}
 use Rattle.std.proofs.lemmas.Bool.Decides.{nat_tests}
 use Rattle.std.proofs.lemmas.List.Folds.{list_any-append}
 use Rattle.calc_addr.specs.Places.{IsBefore, Place, Rectangle, Rows, corner, covers}
 use Rattle.calc_model.proofs.Areas.{Inside, covered, inside}
 use Rattle.run_unions.specs.Unions.{is_in}
-use Rattle.dirty_spread.specs.Marking.{IsMarked, Marks, MarksFront, fresh, has_mark, is_in_any}
+use Rattle.dirty_spread.specs.Marking.{IsMarked, Marks, MarksFront, has_mark, is_in_any}
 use Rattle.dirty_spread.proofs.Fronts.{or_left, or_right}
 use Rattle.dirty_spread.proofs.Listing.{StandsAt, at_default, rows_stand}
 

@@ -1,10 +1,10 @@
-use Rattle.std.proofs.Common.{◌≡◌, ◌≤◌, ◌<◌, ℕ, ◌+◌, ◌&&◌, ◌||◌, ◌⊎◌, Bool, true, false, List, take, length, get_or, refl, sym, ap, subst, ◌∙◌, ⊎_elim, inl, inr}
-use Rattle.std.specs.List.{Contains, flat_map, list_any}
+use Rattle.std.proofs.Common.{◌≡◌, ◌<◌, ℕ, ◌+◌, ◌&&◌, ◌||◌, ◌⊎◌, Bool, true, false, List, take, length, get_or, sym, ap, subst, ◌∙◌, ⊎_elim, inl, inr}
+use Rattle.std.specs.List.{Contains}
 use Rattle.std.proofs.lemmas.Bool.{and_from, and_parts, or_cases}
 use Rattle.std.proofs.lemmas.List.{take_all}
 use Rattle.std.proofs.lemmas.List.Folds.{list_any_at, list_any_more}
 use Rattle.calc_addr.specs.Places.{Place, Rectangle, Rows, covers}
-use Rattle.cell_runs.specs.CellLists.{all_cells, cells_of}
+use Rattle.cell_runs.specs.CellLists.{all_cells}
 use Rattle.run_unions.specs.Unions.{is_in}
 use Rattle.dirty_spread.specs.Marking.{IsFormulaIn, Marks, is_in_any}
 use Rattle.dirty_spread.proofs.Cells.{in_runs, runs_in}

@@ -1,5 +1,4 @@
 use Rattle.std.proofs.Common.{◌≡◌, true, take}
-use Rattle.std.specs.List.{Contains}
 use Rattle.calc_addr.specs.Places.{covers}
 use Rattle.dirty_spread.specs.Marking.{IsFormulaIn, Marks, is_in_any}
 use Rattle.dirty_spread.proofs.marking.mark_area.Given as goal

@@ -1,4 +1,4 @@
-use Rattle.std.proofs.Common.{◌≡◌, ◌≤◌, ◌+◌, ◌-◌}
+use Rattle.std.proofs.Common.{◌≤◌, ◌-◌}
 use Rattle.dirty_spread.specs.Marking.{MarksFront}
 use Rattle.dirty_spread.proofs.marking.mark_rows.Given as goal
 

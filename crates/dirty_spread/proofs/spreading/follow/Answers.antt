@@ -1,11 +1,11 @@
-use Rattle.std.proofs.Common.{◌≡◌, ◌+◌, ◌||◌, ◌++◌, true, List, [], take, sym, ap, subst, ◌∙◌, inl, inr}
+use Rattle.std.proofs.Common.{◌≡◌, ◌||◌, ◌++◌, List, [], take, sym, ap, subst, ◌∙◌}
 use Rattle.std.proofs.lemmas.Bool.{or_cases}
 use Rattle.std.proofs.lemmas.List.{take_all}
 use Rattle.std.proofs.lemmas.List.Folds.{list_any_more}
-use Rattle.calc_addr.specs.Places.{Place, Rectangle, Rows}
-use Rattle.calc_model.specs.Listeners.{AreReached, Gets, ReachesArea, ReadAreas, reads_one_of}
+use Rattle.calc_addr.specs.Places.{Rows}
+use Rattle.calc_model.specs.Listeners.{AreReached, Gets, ReadAreas}
 use Rattle.run_unions.specs.Unions.{is_in}
-use Rattle.dirty_spread.specs.Marking.{Marks, is_in_any}
+use Rattle.dirty_spread.specs.Marking.{is_in_any}
 use Rattle.dirty_spread.proofs.Reading.{reached_all, reached_formula}
 use Rattle.dirty_spread.proofs.Stepping.{marked_as, marked_then}
 use Rattle.dirty_spread.proofs.spreading.follow.Goals as goal

@@ -1,4 +1,4 @@
-use Rattle.std.proofs.Common.{◌≡◌, ◌+◌, ◌||◌, true, take, sym, ap, subst, ◌∙◌}
+use Rattle.std.proofs.Common.{◌||◌, take, sym, ap, ◌∙◌}
 use Rattle.std.proofs.lemmas.Bool.{or_cases}
 use Rattle.std.proofs.lemmas.List.Folds.{list_any_more}
 use Rattle.calc_addr.specs.Places.{Rectangle}

@@ -1,7 +1,7 @@
-use Rattle.std.proofs.Common.{◌≡◌, ℕ, true, List, get_or, length, refl, sym, ap, subst, ◌∙◌, arith, rules}
-use Rattle.calc_addr.specs.Places.{Rectangle, Rows}
+use Rattle.std.proofs.Common.{◌≡◌, true, length, subst, arith, rules}
+use Rattle.calc_addr.specs.Places.{Rectangle}
 use Rattle.calc_model.specs.Listeners.{ReachesArea, ReadAreas, reads_one_of}
-use Rattle.dirty_spread.specs.Marking.{IsSpreading, Marks, area_of}
+use Rattle.dirty_spread.specs.Marking.{IsSpreading, Marks}
 use Rattle.dirty_spread.proofs.Spreads.{finish, start, step}
 use Rattle.dirty_spread.proofs.spreading.search.Goals as goal
 

@@ -1,5 +1,5 @@
-use Rattle.std.proofs.Common.{◌≡◌, ◌+◌, ◌-◌, ◌<◌, ◌≤◌, ℕ, max, ◌++◌, List, sym, ap, subst, ◌∙◌, arith}
-use Rattle.calc_addr.specs.Places.{IsRows, Place, Rows}
+use Rattle.std.proofs.Common.{◌≡◌, ◌+◌, ◌-◌, ℕ, max, ◌++◌, sym, ap, subst, ◌∙◌, arith}
+use Rattle.calc_addr.specs.Places.{IsRows, Rows}
 use Rattle.cell_runs.specs.CellLists.{cells_of, first_number, number_of}
 use Rattle.dirty_spread.specs.Sweeping.{IsSwept}
 use Rattle.dirty_spread.proofs.Sweeps.{lie_before, swept_more, swept_over}
