@@ -1,4 +1,5 @@
 -- Cells: the cells of runs, as a list and as a test.
+-- Found: cells at places of a list in order.
 -- Fronts: marks of the first rows of a run.
 -- Listing: the places of a run's cells in a list in order.
 -- Reading: which cells are formula cells, and which are stale, by what they read.
@@ -6,7 +7,9 @@
 -- Spreads: what a search of stale cells has found.
 -- Stepping: marks one after the other.
 -- Sweeps: one run more of those whose cells stand in a list.
+-- WaveExamples: worked examples of waves.
 pub mod Cells
+pub mod Found
 pub mod Fronts
 pub mod Listing
 pub mod Reading
@@ -14,3 +17,4 @@ mod SpreadExamples
 pub mod Spreads
 pub mod Stepping
 pub mod Sweeps
+mod WaveExamples

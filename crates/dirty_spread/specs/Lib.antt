@@ -1,6 +1,10 @@
+-- Finding: places of cells in a list in order.
 -- Marking: marks of formula cells, and runs of those that were marked.
 -- Spreading: which formula cells are stale once areas were touched.
 -- Sweeping: the cells of sorted runs, each once.
+-- Waves: in which order stale formulas are calculated.
+pub mod Finding
 pub mod Marking
 pub mod Spreading
 pub mod Sweeping
+pub mod Waves

@@ -1,6 +1,7 @@
 //! Which formulas are stale after an edit, and in which order stale formulas are calculated.
 #![tactic(auto)]
 
+mod finding;
 mod marking;
 mod spreading;
 mod union;
