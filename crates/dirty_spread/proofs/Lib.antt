@@ -1,18 +1,22 @@
+-- Beside: which cells are in a list, and which beside show circles.
 -- Cells: the cells of runs, as a list and as a test.
 -- Found: cells at places of a list in order.
 -- Fronts: marks of the first rows of a run.
 -- Listing: the places of a run's cells in a list in order.
 -- Reading: which cells are formula cells, and which are stale, by what they read.
+-- Scans: levels of the cells of an area, one cell more.
 -- SpreadExamples: worked examples of stale cells.
 -- Spreads: what a search of stale cells has found.
 -- Stepping: marks one after the other.
 -- Sweeps: one run more of those whose cells stand in a list.
 -- WaveExamples: worked examples of waves.
+pub mod Beside
 pub mod Cells
 pub mod Found
 pub mod Fronts
 pub mod Listing
 pub mod Reading
+pub mod Scans
 mod SpreadExamples
 pub mod Spreads
 pub mod Stepping

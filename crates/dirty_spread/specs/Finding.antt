@@ -1,6 +1,9 @@
 -- Places of cells in a list in order.
 use Rattle.std.specs.Prelude.{◌≡◌, ◌≤◌, ◌<◌, ℕ, true, false, List, length, slice_index_or, Option, Some, None}
 use Rattle.calc_addr.specs.Places.{IsBefore, Place, Rectangle, covers}
+use Rattle.calc_model.specs.Scalars.{CellValues}
+use Rattle.calc_model.specs.UsedCells.{is_circle}
+use Rattle.dirty_spread.specs.Waves.{has}
 
 -- the cell at a place of the list
 abbrev pub at : List Place → ℕ → Place
@@ -22,3 +25,9 @@ pub record IsNextIn (cells : List Place) (area : Rectangle) (from place : ℕ) :
 abbrev pub IsSkip : Rectangle → Place → Option Place → Type 0
 IsSkip area cell None = (q : Place) → IsBefore cell q → covers area q ≡ false
 IsSkip area cell (Some next) = IsBefore cell next × ((q : Place) → IsBefore cell q → IsBefore q next → covers area q ≡ false)
+
+-- The cell of an area isn't in the list and shows a circle.
+pub record IsCircleIn (cells : List Place) (values : CellValues) (area : Rectangle) (q : Place) : Type 0 where
+  pub covered : covers area q ≡ true
+  pub beside : has cells q ≡ false
+  pub circle : is_circle (values q) ≡ true

@@ -1,7 +1,9 @@
 //! Which formulas are stale after an edit, and in which order stale formulas are calculated.
 #![tactic(auto)]
 
+mod circles;
 mod finding;
+mod look;
 mod marking;
 mod spreading;
 mod union;
