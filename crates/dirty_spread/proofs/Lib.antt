@@ -3,6 +3,7 @@
 -- Found: cells at places of a list in order.
 -- Fronts: marks of the first rows of a run.
 -- Listing: the places of a run's cells in a list in order.
+-- Looks: areas looked at, one more.
 -- Reading: which cells are formula cells, and which are stale, by what they read.
 -- Scans: levels of the cells of an area, one cell more.
 -- SpreadExamples: worked examples of stale cells.
@@ -15,6 +16,7 @@ pub mod Cells
 pub mod Found
 pub mod Fronts
 pub mod Listing
+pub mod Looks
 pub mod Reading
 pub mod Scans
 mod SpreadExamples

@@ -4,6 +4,7 @@ use Rattle.std.specs.Prelude.{◌≡◌, ◌≤◌, ◌<◌, ◌⊎◌, ℕ, suc
 use Rattle.std.specs.List.{All, AllPairs, count_by, list_any}
 use Rattle.calc_addr.specs.Places.{Place, Rectangle, covers}
 use Rattle.calc_model.specs.Listeners.{listed}
+use Rattle.calc_model.specs.Touched.{CellSet}
 use Rattle.dirty_spread.specs.declared.look.Cursor.{Cursor}
 use Rattle.dirty_spread.specs.declared.look.Frame.{Frame}
 use Rattle.dirty_spread.specs.declared.look.Seen.{Seen}
@@ -35,31 +36,31 @@ abbrev pub area_at : List Rectangle → ℕ → Rectangle
 area_at areas j = slice_index_or areas j (record { sheet = 0; first_col = 0; last_col = 0; first_row = 0; last_row = 0 })
 
 -- So far as the cursor, the cells of the areas have waves, or aren't stale and show no circle.
-pub record IsLooked (problem : Problem) (areas : List Rectangle) (levels : List ℕ) (cursor : Cursor) : Type 0 where
+pub record IsLooked (cells : List Place) (circular : CellSet) (areas : List Rectangle) (levels : List ℕ) (cursor : Cursor) : Type 0 where
   pub low : 2 ≤ cursor.greatest
-  pub within : cursor.next ≤ length problem.stale
-  pub settled : (j i : ℕ) → j < cursor.area → j < length areas → i < length problem.stale → covers (area_at areas j) (at problem.stale i) ≡ true → IsSettled levels cursor.greatest i
-  pub beside : (j : ℕ) (q : Place) → j < cursor.area → j < length areas → covers (area_at areas j) q ≡ true → has problem.stale q ≡ false → problem.circular q ≡ false
-  pub part : (i : ℕ) → cursor.area < length areas → i < cursor.next → covers (area_at areas cursor.area) (at problem.stale i) ≡ true → IsSettled levels cursor.greatest i
-  pub attained : (cursor.greatest ≡ 2) ⊎ ((i : ℕ) × (i < length problem.stale) × is_in_one areas (at problem.stale i) × (level levels i ≡ cursor.greatest))
+  pub within : cursor.next ≤ length cells
+  pub settled : (j i : ℕ) → j < cursor.area → j < length areas → i < length cells → covers (area_at areas j) (at cells i) ≡ true → IsSettled levels cursor.greatest i
+  pub beside : (j : ℕ) (q : Place) → j < cursor.area → j < length areas → covers (area_at areas j) q ≡ true → has cells q ≡ false → circular q ≡ false
+  pub part : (i : ℕ) → cursor.area < length areas → i < cursor.next → covers (area_at areas cursor.area) (at cells i) ≡ true → IsSettled levels cursor.greatest i
+  pub attained : (cursor.greatest ≡ 2) ⊎ ((i : ℕ) × (i < length cells) × is_in_one areas (at cells i) × (level levels i ≡ cursor.greatest))
 
 -- a stale cell of one of the areas that has no wave yet
-pub record IsOpen (problem : Problem) (areas : List Rectangle) (levels : List ℕ) (i : ℕ) : Type 0 where
-  pub within : i < length problem.stale
-  pub read : is_in_one areas (at problem.stale i)
+pub record IsOpen (cells : List Place) (areas : List Rectangle) (levels : List ℕ) (i : ℕ) : Type 0 where
+  pub within : i < length cells
+  pub read : is_in_one areas (at cells i)
   pub none : level levels i ≤ 2
 
 -- a cell of one of the areas that isn't stale and shows a circle
-pub record IsCircleBeside (problem : Problem) (areas : List Rectangle) (q : Place) : Type 0 where
+pub record IsCircleBeside (cells : List Place) (circular : CellSet) (areas : List Rectangle) (q : Place) : Type 0 where
   pub read : is_in_one areas q
-  pub beside : has problem.stale q ≡ false
-  pub circle : problem.circular q ≡ true
+  pub beside : has cells q ≡ false
+  pub circle : circular q ≡ true
 
 -- what was seen in the areas
-abbrev pub IsSeen : Problem → List Rectangle → List ℕ → Seen → Type 0
-IsSeen problem areas levels (seen.Settled cursor) = (length areas ≤ cursor.area) × IsLooked problem areas levels cursor
-IsSeen problem areas levels (seen.Open cursor) = IsOpen problem areas levels cursor.next × IsLooked problem areas levels cursor
-IsSeen problem areas levels seen.Circle = (q : Place) × IsCircleBeside problem areas q
+abbrev pub IsSeen : List Place → CellSet → List Rectangle → List ℕ → Seen → Type 0
+IsSeen cells circular areas levels (seen.Settled cursor) = (length areas ≤ cursor.area) × IsLooked cells circular areas levels cursor
+IsSeen cells circular areas levels (seen.Open cursor) = IsOpen cells areas levels cursor.next × IsLooked cells circular areas levels cursor
+IsSeen cells circular areas levels seen.Circle = (q : Place) × IsCircleBeside cells circular areas q
 
 -- The first cell isn't done before some waves after those before which the second isn't.
 pub record Leads (problem : Problem) (p q : Place) : Type 0 where
@@ -80,6 +81,6 @@ pub record IsOrdering (problem : Problem) (levels : List ℕ) (path : List Frame
   pub wave : (i k : ℕ) → i < length problem.stale → level levels i ≡ k + 3 → (is_done problem (suc k) (at problem.stale i) ≡ true) × (is_done problem k (at problem.stale i) ≡ false)
   pub circular : (i k : ℕ) → i < length problem.stale → level levels i ≡ 2 → is_done problem k (at problem.stale i) ≡ false
   pub on_path : (i : ℕ) → level levels i ≡ 1 → (f : Frame) × Contains path f × (f.place ≡ i)
-  pub looking : All (λ f. (f.place < length problem.stale) × (level levels f.place ≡ 1) × IsLooked problem (read_by problem f.place) levels f.cursor) path
+  pub looking : All (λ f. (f.place < length problem.stale) × (level levels f.place ≡ 1) × IsLooked problem.stale problem.circular (read_by problem f.place) levels f.cursor) path
   pub leads : AllPairs (λ f g. Leads problem (at problem.stale f.place) (at problem.stale g.place)) path
   pub bound : (i : ℕ) → level levels i + rest levels path ≤ 2 * length problem.stale + 3

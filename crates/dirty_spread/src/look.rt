@@ -4,10 +4,10 @@ ghost use Rattle.std.specs.List.{AllPairs};
 ghost use Rattle.calc_addr.specs.Places.{IsBefore, Place, covers};
 ghost use Rattle.calc_model.specs.UsedCells.{is_circle};
 ghost use Rattle.dirty_spread.specs.Levels.{IsLooked, IsScan, IsSeen, level};
-ghost use Rattle.dirty_spread.specs.Waves.{has};
 
+use crate::circles::shows_circle;
 use crate::finding::next_in;
-use calc_addr::{Area, Cell};
+use calc_addr::Area;
 use calc_model::Values;
 use cell_runs::CellRuns;
 
@@ -63,4 +63,42 @@ fn scan(
         place = next_in(cells, area, place + 1);
     }
     (place, greatest)
+}
+
+/// Looks at what a cell reads from a cursor on, until a cell is met that has no wave.
+pub(crate) fn look<V: Values>(
+    cells: &CellRuns,
+    ready: &V,
+    levels: &[usize],
+    areas: &[Area],
+    start: &Cursor,
+) -> Seen
+    requires in_order { AllPairs IsBefore cells.now }
+    requires size { length levels.now ≡ length cells.now }
+    requires looked { IsLooked cells.now (λ q. is_circle (V.values ready.now q))
+        areas.now levels.now start.now }
+    ensures { IsSeen cells.now (λ q. is_circle (V.values ready.now q))
+        areas.now levels.now result }
+{
+    let mut cursor = *start;
+    while cursor.area < areas.len() {
+        let area = &areas[cursor.area];
+        let (next, greatest) = scan(cells, levels, area, cursor.next, cursor.greatest);
+        if next < levels.len() {
+            return Seen::Open(Cursor {
+                area: cursor.area,
+                next,
+                greatest,
+            });
+        }
+        if shows_circle(cells, ready, area) {
+            return Seen::Circle;
+        }
+        cursor = Cursor {
+            area: cursor.area + 1,
+            next: 0,
+            greatest,
+        };
+    }
+    Seen::Settled(cursor)
 }
