@@ -1,9 +1,11 @@
 -- Beside: which cells are in a list, and which beside show circles.
 -- Cells: the cells of runs, as a list and as a test.
+-- Dones: when cells are done.
 -- Found: cells at places of a list in order.
 -- Fronts: marks of the first rows of a run.
 -- Listing: the places of a run's cells in a list in order.
 -- Looks: areas looked at, one more.
+-- Orders: levels of stale cells, one step more.
 -- Reading: which cells are formula cells, and which are stale, by what they read.
 -- Scans: levels of the cells of an area, one cell more.
 -- SpreadExamples: worked examples of stale cells.
@@ -13,10 +15,12 @@
 -- WaveExamples: worked examples of waves.
 pub mod Beside
 pub mod Cells
+pub mod Dones
 pub mod Found
 pub mod Fronts
 pub mod Listing
 pub mod Looks
+pub mod Orders
 pub mod Reading
 pub mod Scans
 mod SpreadExamples

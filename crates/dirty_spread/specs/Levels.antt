@@ -1,6 +1,6 @@
 -- Levels of stale cells while their waves are found: 0 before a cell is looked at, 1 while it is, 2 where it is in no
 -- wave, and k + 3 where it is in the wave of number k.
-use Rattle.std.specs.Prelude.{◌≡◌, ◌≤◌, ◌<◌, ◌⊎◌, ℕ, suc, ◌+◌, ◌*◌, ◌==◌, true, false, List, length, slice_index, slice_index_or, Contains}
+use Rattle.std.specs.Prelude.{◌≡◌, ◌≢◌, ◌≤◌, ◌<◌, ◌⊎◌, ℕ, suc, ◌+◌, ◌*◌, ◌==◌, true, false, List, length, slice_index, slice_index_or, Contains}
 use Rattle.std.specs.List.{All, AllPairs, count_by, list_any}
 use Rattle.calc_addr.specs.Places.{Place, Rectangle, covers}
 use Rattle.calc_model.specs.Listeners.{listed}
@@ -82,5 +82,20 @@ pub record IsOrdering (problem : Problem) (levels : List ℕ) (path : List Frame
   pub circular : (i k : ℕ) → i < length problem.stale → level levels i ≡ 2 → is_done problem k (at problem.stale i) ≡ false
   pub on_path : (i : ℕ) → level levels i ≡ 1 → (f : Frame) × Contains path f × (f.place ≡ i)
   pub looking : All (λ f. (f.place < length problem.stale) × (level levels f.place ≡ 1) × IsLooked problem.stale problem.circular (read_by problem f.place) levels f.cursor) path
-  pub leads : AllPairs (λ f g. Leads problem (at problem.stale f.place) (at problem.stale g.place)) path
+  pub leads : AllPairs (λ f g. (f.place ≢ g.place) × Leads problem (at problem.stale f.place) (at problem.stale g.place)) path
+  pub room : rest levels path ≤ 2 * length problem.stale
   pub bound : (i : ℕ) → level levels i + rest levels path ≤ 2 * length problem.stale + 3
+
+-- The places of these cells, which are being looked at, have level 2 or still 1, and no other level has changed.
+pub record IsClosed (old new : List ℕ) : Type 0 where
+  pub size : length new ≡ length old
+  pub same : (i : ℕ) → level old i ≢ 1 → level new i ≡ level old i
+  pub ones : (i : ℕ) → level old i ≡ 1 → (level new i ≡ 1) ⊎ (level new i ≡ 2)
+  pub fresh : count_by (λ x. x == 0) new ≡ count_by (λ x. x == 0) old
+
+-- what all levels say in the end
+pub record AreLevels (problem : Problem) (levels : List ℕ) : Type 0 where
+  pub size : length levels ≡ length problem.stale
+  pub wave : (i k : ℕ) → i < length problem.stale → level levels i ≡ k + 3 → (is_done problem (suc k) (at problem.stale i) ≡ true) × (is_done problem k (at problem.stale i) ≡ false)
+  pub circular : (i k : ℕ) → i < length problem.stale → level levels i ≡ 2 → is_done problem k (at problem.stale i) ≡ false
+  pub settled : (i : ℕ) → i < length problem.stale → 2 ≤ level levels i
