@@ -7,7 +7,7 @@ use Rattle.std.proofs.Math.Seq.{get_or-append_seam}
 use Rattle.std.proofs.lemmas.Bool.Decides.{nat_tests}
 use Rattle.std.proofs.lemmas.Bool.{cases_eq, cases_lt, cases_order, cases_Bool, false≢true}
 use Rattle.std.proofs.lemmas.List.{get_or-set_other, get_or-set_same, get_or_append_left, length-set, get_or_past}
-use Rattle.std.proofs.lemmas.List.Elements.{All-append, All-push, Contains-append_cases, Contains-append_left, Contains-append_right, Contains-push, Contains-push_cases}
+use Rattle.std.proofs.lemmas.List.Elements.{All-append, All-contains, All-push, Contains-append_cases, Contains-append_left, Contains-append_right, Contains-push, Contains-push_cases}
 use Rattle.std.proofs.lemmas.List.Quantifiers.{all_pairs_push}
 use Rattle.std.proofs.lemmas.List.Sums.{sum_by-set}
 use Rattle.calc_addr.specs.Places.{Place, Rectangle, covers}
@@ -188,6 +188,9 @@ module _ (p : Problem) where
           (λ (ne : i ≡ top.place → ⊥). h.wave i k within (sym (other i ne) ∙ is))
           (cases_eq i top.place)
 
+      pub settle_less : rest (set levels top.place (cursor.greatest + 1)) front < rest levels (front ++ top ∷ [])
+      settle_less = omega (arith, rest_less)
+
       pub settle : IsOrdering p (set levels top.place (cursor.greatest + 1)) front
       settle = record {
         size = length-set levels top.place (cursor.greatest + 1) ∙ h.size;
@@ -207,3 +210,128 @@ module _ (p : Problem) where
         bound = λ i. ⊎_elim (λ (e : i ≡ top.place). subst (λ j. level (set levels top.place (cursor.greatest + 1)) j + rest (set levels top.place (cursor.greatest + 1)) front ≤ 2 * n + 3) (sym e) (omega (arith, new_top, rest_less, greatest_bound)))
             (λ (ne : i ≡ top.place → ⊥). omega (arith, other i ne, rest_less, h.bound i)) (cases_eq i top.place);
       }
+
+    module _ (cursor : Cursor) (opened : IsOpen p.stale (read_by p top.place) levels cursor.next) (looked : IsLooked p.stale p.circular (read_by p top.place) levels cursor) (is_new : level levels cursor.next ≡ 0) where
+      abbrev again : Frame
+      again = record { place = top.place; cursor = cursor }
+
+      abbrev beyond : Frame
+      beyond = record { place = cursor.next; cursor = record { area = 0; next = 0; greatest = 2 } }
+
+      abbrev after : List ℕ
+      after = set levels cursor.next 1
+
+      abbrev longer : List Frame
+      longer = (front ++ again ∷ []) ++ beyond ∷ []
+
+      next_within : cursor.next < length levels
+      next_within = omega (arith, opened.within, h.size)
+
+      next_level : level after cursor.next ≡ 1
+      next_level = level_same levels cursor.next 1 next_within
+
+      unchanged : (i : ℕ) → (i ≡ cursor.next → ⊥) → level after i ≡ level levels i
+      unchanged i ne = level_other levels cursor.next i 1 ne
+
+      -- what is looked at isn't new
+      old_place : (i : ℕ) → level levels i ≡ 1 → i ≡ cursor.next → ⊥
+      old_place i one e = let same : level levels i ≡ level levels cursor.next = ap (level levels) e in absurd (omega arith)
+
+      still : (f : Frame) → IsLooking levels f → IsLooking after f
+      still f l = (l.0, unchanged f.place (old_place f.place l.1) ∙ l.1, looked_kept p.stale p.circular (read_by p f.place) levels after f.cursor (set_keeps levels cursor.next 1 opened.none) l.2)
+
+      start_looked : IsLooked p.stale p.circular (read_by p cursor.next) after (record { area = 0; next = 0; greatest = 2 })
+      start_looked = record {
+        low = omega arith;
+        within = omega arith;
+        settled = λ j i lj hj hi c. absurd (omega arith);
+        beside = λ j r lj hj c absent. absurd (omega arith);
+        part = λ i m low c. absurd (omega arith);
+        attained = inl refl;
+      }
+
+      again_leads : AllPairs LeadsTo (front ++ again ∷ [])
+      again_leads = all_pairs_push LeadsTo front again front_leads (λ k d less. lead_top k d less)
+
+      top_beyond : Leads p (at p.stale top.place) (at p.stale cursor.next)
+      top_beyond = leads_on p (at p.stale top.place) (at p.stale top.place) (at p.stale cursor.next) (leads_itself p (at p.stale top.place)) opened.read (held cursor.next opened.within)
+
+      beyond_leads : (k : ℕ) (d : Frame) → k < length (front ++ again ∷ []) → LeadsTo (get_or (front ++ again ∷ []) k d) beyond
+      beyond_leads k d less =
+          ⊎_elim (λ (l : k < length front).
+          let f = lead_top k d l in
+          let looking = front_looking k d l in
+          subst (λ g. LeadsTo g beyond) (sym (get_or_append_left front (again ∷ []) d k l))
+          (old_place (get_or front k d).place looking.1, leads_on p (at p.stale (get_or front k d).place) (at p.stale top.place) (at p.stale cursor.next) f.1 opened.read (held cursor.next opened.within)))
+          (λ (le : length front ≤ k).
+          let last : length front ≡ k = omega (arith, length-append front (again ∷ [])) in
+          subst (λ m. LeadsTo (get_or (front ++ again ∷ []) m d) beyond) last
+          (subst (λ g. LeadsTo g beyond) (sym (get_or-append_seam front again [] d)) (old_place top.place top_looking.1, top_beyond)))
+          (cases_lt k (length front))
+
+      rest_one : rest after longer + 1 ≡ rest levels (front ++ top ∷ [])
+      rest_one = omega (arith, count_less levels cursor.next next_within is_new, path_length, length-append (front ++ again ∷ []) (beyond ∷ []), length-append front (again ∷ []))
+
+      path_after : (i : ℕ) → level after i ≡ 1 → (f : Frame) × Contains longer f × (f.place ≡ i)
+      path_after i is =
+          ⊎_elim (λ (e : i ≡ cursor.next). (beyond, Contains-push (front ++ again ∷ []) beyond, sym e))
+          (λ (ne : i ≡ cursor.next → ⊥).
+          let f = h.on_path i (sym (unchanged i ne) ∙ is) in
+          ⊎_elim (λ (c : Contains front f.0 × LeadsTo f.0 top). (f.0, Contains-append_left (front ++ again ∷ []) (beyond ∷ []) f.0 (Contains-append_left front (again ∷ []) f.0 c.0), f.2))
+          (λ (c : top ≡ f.0). (again, Contains-append_left (front ++ again ∷ []) (beyond ∷ []) again (Contains-push front again), ap (λ (g : Frame). g.place) c ∙ f.2))
+          (of_path f.0 f.1))
+          (cases_eq i cursor.next)
+
+      pub descend : IsOrdering p (set levels cursor.next 1) ((front ++ record { place = top.place; cursor = cursor } ∷ []) ++ record { place = cursor.next; cursor = record { area = 0; next = 0; greatest = 2 } } ∷ [])
+      descend = record {
+        size = length-set levels cursor.next 1 ∙ h.size;
+        wave = λ i k within is. ⊎_elim (λ (e : i ≡ cursor.next). absurd (omega (arith, next_level, subst (λ j. level after j ≡ k + 3) e is)))
+            (λ (ne : i ≡ cursor.next → ⊥). h.wave i k within (sym (unchanged i ne) ∙ is)) (cases_eq i cursor.next);
+        circular = λ i k within is. ⊎_elim (λ (e : i ≡ cursor.next). absurd (omega (arith, next_level, subst (λ j. level after j ≡ 2) e is)))
+            (λ (ne : i ≡ cursor.next → ⊥). h.circular i k within (sym (unchanged i ne) ∙ is)) (cases_eq i cursor.next);
+        on_path = path_after;
+        looking = All-push (IsLooking after) (front ++ again ∷ []) beyond
+            (All-push (IsLooking after) front again (λ j d less. still (get_or front j d) (front_looking j d less)) (still again (top_looking.0, top_looking.1, looked)))
+            (opened.within, next_level, start_looked);
+        leads = all_pairs_push LeadsTo (front ++ again ∷ []) beyond again_leads beyond_leads;
+        room = omega (arith, rest_one, h.room);
+        bound = λ i. ⊎_elim (λ (e : i ≡ cursor.next). subst (λ j. level after j + rest after longer ≤ 2 * n + 3) (sym e) (omega (arith, next_level, rest_one, h.room)))
+            (λ (ne : i ≡ cursor.next → ⊥). omega (arith, unchanged i ne, rest_one, h.bound i)) (cases_eq i cursor.next);
+      }
+
+      pub descend_less : rest (set levels cursor.next 1) ((front ++ record { place = top.place; cursor = cursor } ∷ []) ++ record { place = cursor.next; cursor = record { area = 0; next = 0; greatest = 2 } } ∷ []) < rest levels (front ++ top ∷ [])
+      descend_less = omega (arith, rest_one)
+
+    module _ (never : (k : ℕ) → is_done p k (at p.stale top.place) ≡ false) (new : List ℕ) (closed : IsClosed levels new) (all : All (λ f. level new f.place ≡ 2) (front ++ top ∷ [])) where
+      never_path : (i : ℕ) → level levels i ≡ 1 → (k : ℕ) → is_done p k (at p.stale i) ≡ false
+      never_path i one =
+          let f = h.on_path i one in
+          subst (λ j. (k : ℕ) → is_done p k (at p.stale j) ≡ false) f.2
+          (never_on p (at p.stale f.0.place) (at p.stale top.place) (leads_top f.0 f.1) never)
+
+      two_path : (i : ℕ) → level levels i ≡ 1 → level new i ≡ 2
+      two_path i one =
+          let f = h.on_path i one in
+          subst (λ j. level new j ≡ 2) f.2 (All-contains (λ g. level new g.place ≡ 2) (front ++ top ∷ []) f.0 all f.1)
+
+      rest_none : rest new [] < rest levels (front ++ top ∷ [])
+      rest_none = omega (arith, closed.fresh, path_length)
+
+      pub circle : IsOrdering p new []
+      circle = record {
+        size = closed.size ∙ h.size;
+        wave = λ i k within is. ⊎_elim (λ (one : level levels i ≡ 1). absurd (omega (arith, two_path i one)))
+            (λ (ne : level levels i ≡ 1 → ⊥). h.wave i k within (sym (closed.same i ne) ∙ is)) (cases_eq (level levels i) 1);
+        circular = λ i k within is. ⊎_elim (λ (one : level levels i ≡ 1). never_path i one k)
+            (λ (ne : level levels i ≡ 1 → ⊥). h.circular i k within (sym (closed.same i ne) ∙ is)) (cases_eq (level levels i) 1);
+        on_path = λ i is. ⊎_elim (λ (one : level levels i ≡ 1). absurd (omega (arith, two_path i one)))
+            (λ (ne : level levels i ≡ 1 → ⊥). absurd (ne (sym (closed.same i ne) ∙ is))) (cases_eq (level levels i) 1);
+        looking = λ j d less. absurd (omega arith);
+        leads = λ i j d less within. absurd (omega arith);
+        room = omega (arith, rest_none, h.room);
+        bound = λ i. ⊎_elim (λ (one : level levels i ≡ 1). omega (arith, two_path i one, rest_none, h.bound i))
+            (λ (ne : level levels i ≡ 1 → ⊥). omega (arith, closed.same i ne, rest_none, h.bound i)) (cases_eq (level levels i) 1);
+      }
+
+      pub circle_less : rest new [] < rest levels (front ++ top ∷ [])
+      circle_less = rest_none
