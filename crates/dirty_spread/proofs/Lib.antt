@@ -1,5 +1,6 @@
 -- Beside: which cells are in a list, and which beside show circles.
 -- Cells: the cells of runs, as a list and as a test.
+-- Closings: levels of cells that are in no wave.
 -- Dones: when cells are done.
 -- Found: cells at places of a list in order.
 -- Fronts: marks of the first rows of a run.
@@ -15,6 +16,7 @@
 -- WaveExamples: worked examples of waves.
 pub mod Beside
 pub mod Cells
+pub mod Closings
 pub mod Dones
 pub mod Found
 pub mod Fronts

@@ -9,16 +9,16 @@ use Rattle.std.proofs.lemmas.Bool.{cases_eq, cases_lt, cases_order, cases_Bool, 
 use Rattle.std.proofs.lemmas.List.{get_or-set_other, get_or-set_same, get_or_append_left, length-set, get_or_past}
 use Rattle.std.proofs.lemmas.List.Elements.{All-append, All-contains, All-push, Contains-append_cases, Contains-append_left, Contains-append_right, Contains-push, Contains-push_cases}
 use Rattle.std.proofs.lemmas.List.Quantifiers.{all_pairs_push}
-use Rattle.std.proofs.lemmas.List.Sums.{sum_by-set}
+use Rattle.std.proofs.lemmas.List.Sums.{count_by-le-length, sum_by-set}
 use Rattle.calc_addr.specs.Places.{Place, Rectangle, covers}
 use Rattle.calc_model.specs.Touched.{CellSet}
 use Rattle.dirty_spread.specs.declared.look.Cursor.{Cursor}
 use Rattle.dirty_spread.specs.declared.look.Frame.{Frame}
 use Rattle.dirty_spread.specs.Finding.{at}
-use Rattle.dirty_spread.specs.Levels.{AreLevels, IsClosed, IsLooked, IsOpen, IsOrdering, IsSettled, Leads, area_at, is_in_one, level, read_by, rest}
+use Rattle.dirty_spread.specs.Levels.{AreLevels, IsCircleBeside, IsClosable, IsClosed, IsLooked, IsOpen, IsOrdering, IsSettled, Leads, area_at, is_in_one, level, read_by, rest}
 use Rattle.dirty_spread.specs.Waves.{Problem, has, is_done}
 use Rattle.dirty_spread.proofs.Beside.{has_held, held_has}
-use Rattle.dirty_spread.proofs.Dones.{area_of_one, by_done, done_by, good_other, good_stale, later_than, leads_itself, leads_on, never_on, reader_later, stale_good}
+use Rattle.dirty_spread.proofs.Dones.{area_of_one, by_done, done_by, good_other, good_stale, later_than, leads_itself, leads_on, never_around, never_by, never_on, never_read, reader_later, stale_good}
 use Rattle.dirty_spread.proofs.Found.{at_holds, at_of}
 
 -- levels that agree where a cell has a wave
@@ -55,7 +55,7 @@ level_other levels i j v ne = get_or-set_other levels i j v 0 ne
 set_keeps : (levels : List ℕ) (i v : ℕ) → level levels i ≤ 2 → KeepsWaves levels (set levels i v)
 set_keeps levels i v low j high = level_other levels i j v (λ e. let same : level levels j ≡ level levels i = ap (level levels) e in absurd (omega arith))
 
-abbrev new_once : ℕ → ℕ
+abbrev pub new_once : ℕ → ℕ
 new_once x = cond (x == 0) 1 0
 
 -- how many cells weren't looked at, after one that was got another level
@@ -302,6 +302,25 @@ module _ (p : Problem) where
       pub descend_less : rest (set levels cursor.next 1) ((front ++ record { place = top.place; cursor = cursor } ∷ []) ++ record { place = cursor.next; cursor = record { area = 0; next = 0; greatest = 2 } } ∷ []) < rest levels (front ++ top ∷ [])
       descend_less = omega (arith, rest_one)
 
+    pub closable : All (IsClosable levels) (front ++ top ∷ [])
+    closable j d less = let f = h.looking j d less in (omega (arith, f.0, h.size), inl f.1)
+
+    -- a cell that reads one which leads to it, or is in no wave, is in none
+    pub never_open : (next : ℕ) → IsOpen p.stale (read_by p top.place) levels next → (level levels next ≡ 0 → ⊥) → (k : ℕ) → is_done p k (at p.stale top.place) ≡ false
+    never_open next opened old =
+        ⊎_elim (λ (one : level levels next ≡ 1).
+        let f = h.on_path next one in
+        never_around p (at p.stale top.place) (at p.stale next) opened.read (held next opened.within) (subst (λ j. Leads p (at p.stale j) (at p.stale top.place)) f.2 (leads_top f.0 f.1)))
+        (λ (ne : level levels next ≡ 1 → ⊥).
+        never_read p (at p.stale top.place) (at p.stale next) opened.read (held next opened.within) (λ k. h.circular next k opened.within (two ne)))
+        (cases_eq (level levels next) 1)
+      where
+        two : (level levels next ≡ 1 → ⊥) → level levels next ≡ 2
+        two ne = let low : level levels next ≤ 2 = opened.none in omega arith
+
+    pub never_circle : (r : Place) → IsCircleBeside p.stale p.circular (read_by p top.place) r → (k : ℕ) → is_done p k (at p.stale top.place) ≡ false
+    never_circle r c = never_by p (at p.stale top.place) r c.read c.beside c.circle
+
     module _ (never : (k : ℕ) → is_done p k (at p.stale top.place) ≡ false) (new : List ℕ) (closed : IsClosed levels new) (all : All (λ f. level new f.place ≡ 2) (front ++ top ∷ [])) where
       never_path : (i : ℕ) → level levels i ≡ 1 → (k : ℕ) → is_done p k (at p.stale i) ≡ false
       never_path i one =
@@ -335,3 +354,89 @@ module _ (p : Problem) where
 
       pub circle_less : rest new [] < rest levels (front ++ top ∷ [])
       circle_less = rest_none
+
+  module _ (levels : List ℕ) (h : IsOrdering p levels []) (place : ℕ) (in_list : place < length levels) (is_new : level levels place ≡ 0) where
+    abbrev begun : List ℕ
+    begun = set levels place 1
+
+    abbrev first : Frame
+    first = record { place = place; cursor = record { area = 0; next = 0; greatest = 2 } }
+
+    begun_place : level begun place ≡ 1
+    begun_place = level_same levels place 1 in_list
+
+    elsewhere : (i : ℕ) → (i ≡ place → ⊥) → level begun i ≡ level levels i
+    elsewhere i ne = level_other levels place i 1 ne
+
+    rest_begun : rest begun (first ∷ []) + 1 ≡ rest levels []
+    rest_begun = omega (arith, count_less levels place in_list is_new)
+
+    pub begin_kept : (i : ℕ) → level (set levels place 1) i ≡ 0 → level levels i ≡ 0
+    begin_kept i is = ⊎_elim (λ (e : i ≡ place). ap (level levels) e ∙ is_new) (λ (ne : i ≡ place → ⊥). sym (elsewhere i ne) ∙ is) (cases_eq i place)
+
+    pub begin_place : level (set levels place 1) place ≡ 0 → ⊥
+    begin_place e = absurd (omega (arith, begun_place))
+
+    no_frame : (f : Frame) → Contains [] f → ⊥
+    no_frame f (k, within, is) = omega arith
+
+    start_looking : IsLooking begun first
+    start_looking = (
+      omega (arith, h.size),
+      begun_place,
+      record {
+        low = omega arith;
+        within = omega arith;
+        settled = λ j i lj hj hi c. absurd (omega arith);
+        beside = λ j r lj hj c absent. absurd (omega arith);
+        part = λ i m low c. absurd (omega arith);
+        attained = inl refl;
+      },
+    )
+
+    pub begin : IsOrdering p (set levels place 1) (record { place = place; cursor = record { area = 0; next = 0; greatest = 2 } } ∷ [])
+    begin = record {
+      size = length-set levels place 1 ∙ h.size;
+      wave = λ i k within is. ⊎_elim (λ (e : i ≡ place). absurd (omega (arith, begun_place, subst (λ j. level begun j ≡ k + 3) e is)))
+          (λ (ne : i ≡ place → ⊥). h.wave i k within (sym (elsewhere i ne) ∙ is)) (cases_eq i place);
+      circular = λ i k within is. ⊎_elim (λ (e : i ≡ place). absurd (omega (arith, begun_place, subst (λ j. level begun j ≡ 2) e is)))
+          (λ (ne : i ≡ place → ⊥). h.circular i k within (sym (elsewhere i ne) ∙ is)) (cases_eq i place);
+      on_path = λ i is. ⊎_elim (λ (e : i ≡ place). (first, Contains-push [] first, sym e))
+          (λ (ne : i ≡ place → ⊥). let f = h.on_path i (sym (elsewhere i ne) ∙ is) in absurd (no_frame f.0 f.1)) (cases_eq i place);
+      looking = All-push (IsLooking begun) [] first (λ j d less. absurd (omega arith)) start_looking;
+      leads = λ i j d less within. absurd (omega arith);
+      room = omega (arith, rest_begun, h.room);
+      bound = λ i. ⊎_elim (λ (e : i ≡ place). subst (λ j. level begun j + rest begun (first ∷ []) ≤ 2 * n + 3) (sym e) (omega (arith, begun_place, rest_begun, h.room)))
+          (λ (ne : i ≡ place → ⊥). omega (arith, elsewhere i ne, rest_begun, h.bound i)) (cases_eq i place);
+    }
+
+  -- where none is being looked at, each that was looked at has its wave or none
+  pub finished : (levels : List ℕ) → IsOrdering p levels [] → ((i : ℕ) → i < n → level levels i ≢ 0) → AreLevels p levels
+  finished levels h looked = record {
+    size = h.size;
+    wave = h.wave;
+    circular = h.circular;
+    settled = λ i within. ⊎_elim (λ (one : level levels i ≡ 1). let f = h.on_path i one in absurd (no_frames f.0 f.1))
+        (λ (ne : level levels i ≡ 1 → ⊥). above (level levels i) (looked i within) ne) (cases_eq (level levels i) 1);
+  }
+    where
+      no_frames : (f : Frame) → Contains [] f → ⊥
+      no_frames f (k, within, is) = omega arith
+
+      above : (x : ℕ) → (x ≡ 0 → ⊥) → (x ≡ 1 → ⊥) → 2 ≤ x
+      above zero a b = absurd (a refl)
+      above (suc zero) a b = absurd (b refl)
+      above (suc (suc x)) a b = omega arith
+
+  -- at first none was looked at
+  pub unlooked : (levels : List ℕ) → length levels ≡ n → ((i : ℕ) → level levels i ≡ 0) → IsOrdering p levels []
+  unlooked levels size none = record {
+    size = size;
+    wave = λ i k within is. absurd (omega (arith, none i));
+    circular = λ i k within is. absurd (omega (arith, none i));
+    on_path = λ i is. absurd (omega (arith, none i));
+    looking = λ j d less. absurd (omega arith);
+    leads = λ i j d less within. absurd (omega arith);
+    room = omega (arith, count_by-le-length (λ x. x == 0) levels);
+    bound = λ i. omega (arith, none i, count_by-le-length (λ x. x == 0) levels);
+  }

@@ -3,8 +3,10 @@
 use Rattle.std.specs.Prelude.{◌≡◌, ◌≢◌, ◌≤◌, ◌<◌, ◌⊎◌, ℕ, suc, ◌+◌, ◌*◌, ◌==◌, true, false, List, length, slice_index, slice_index_or, Contains}
 use Rattle.std.specs.List.{All, AllPairs, count_by, list_any}
 use Rattle.calc_addr.specs.Places.{Place, Rectangle, covers}
-use Rattle.calc_model.specs.Listeners.{listed}
+use Rattle.calc_model.specs.Listeners.{ReadAreas, listed}
+use Rattle.calc_model.specs.Scalars.{CellValues}
 use Rattle.calc_model.specs.Touched.{CellSet}
+use Rattle.calc_model.specs.UsedCells.{is_circle}
 use Rattle.dirty_spread.specs.declared.look.Cursor.{Cursor}
 use Rattle.dirty_spread.specs.declared.look.Frame.{Frame}
 use Rattle.dirty_spread.specs.declared.look.Seen.{Seen}
@@ -99,3 +101,14 @@ pub record AreLevels (problem : Problem) (levels : List ℕ) : Type 0 where
   pub wave : (i k : ℕ) → i < length problem.stale → level levels i ≡ k + 3 → (is_done problem (suc k) (at problem.stale i) ≡ true) × (is_done problem k (at problem.stale i) ≡ false)
   pub circular : (i k : ℕ) → i < length problem.stale → level levels i ≡ 2 → is_done problem k (at problem.stale i) ≡ false
   pub settled : (i : ℕ) → i < length problem.stale → 2 ≤ level levels i
+
+-- The place's level may be made 2.
+abbrev pub IsClosable : List ℕ → Frame → Type 0
+IsClosable levels f = (f.place < length levels) × ((level levels f.place ≡ 1) ⊎ (level levels f.place ≡ 2))
+
+abbrev pub IsCircular : List ℕ → Frame → Type 0
+IsCircular levels f = level levels f.place ≡ 2
+
+-- what is asked of stale cells, by what shows values
+abbrev pub problem_of : ReadAreas → List Place → CellValues → Problem
+problem_of read stale values = record { read = read; stale = stale; circular = λ q. is_circle (values q) }

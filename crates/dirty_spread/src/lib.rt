@@ -3,6 +3,7 @@
 
 mod circles;
 mod finding;
+mod leveling;
 mod look;
 mod marking;
 mod spreading;
