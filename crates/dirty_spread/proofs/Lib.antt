@@ -4,9 +4,11 @@
 -- Dones: when cells are done.
 -- Found: cells at places of a list in order.
 -- Fronts: marks of the first rows of a run.
+-- KeyLists: numbers of the cells that have waves.
 -- Listing: the places of a run's cells in a list in order.
 -- Looks: areas looked at, one more.
 -- Orders: levels of stale cells, one step more.
+-- PartLists: lists of cells that are kept as runs.
 -- Reading: which cells are formula cells, and which are stale, by what they read.
 -- Scans: levels of the cells of an area, one cell more.
 -- SpreadExamples: worked examples of stale cells.
@@ -20,9 +22,11 @@ pub mod Closings
 pub mod Dones
 pub mod Found
 pub mod Fronts
+pub mod KeyLists
 pub mod Listing
 pub mod Looks
 pub mod Orders
+pub mod PartLists
 pub mod Reading
 pub mod Scans
 mod SpreadExamples

@@ -8,5 +8,7 @@ mod look;
 mod marking;
 mod spreading;
 mod union;
+mod wave_list;
+mod waves;
 
 pub use spreading::spread;
