@@ -2,6 +2,7 @@
 -- Cells: the cells of runs, as a list and as a test.
 -- Closings: levels of cells that are in no wave.
 -- Dones: when cells are done.
+-- Emits: cells that stand in their waves, one cell more.
 -- Found: cells at places of a list in order.
 -- Fronts: marks of the first rows of a run.
 -- KeyLists: numbers of the cells that have waves.
@@ -20,6 +21,7 @@ pub mod Beside
 pub mod Cells
 pub mod Closings
 pub mod Dones
+pub mod Emits
 pub mod Found
 pub mod Fronts
 pub mod KeyLists

@@ -17,7 +17,7 @@ loop-place-preserved c =
           let items : c.loop-place.keys.items ++ key levels n ∷ [] ≡ c.if-levels-place-ge-FIRST.keys.items = sym w.in_ok-push.ensures.items ∙ ap (λ v. v.items) (sym w.keys-is) in
           record { keys = subst (λ ks. AreKeys levels (n + 1) ks) items more.0; below = subst (λ ks. AreBelow (n + 1) ks) items more.1 }
       | else-levels-place-ge-FIRST w ↦
-          let skip = keys_skip levels n c.loop-place.keys.items c.loop-place.invariant.keys c.loop-place.invariant.below w.if-levels-place-ge-FIRST.false in
+          let skip = keys_skip levels n c.loop-place.keys.items c.loop-place.invariant.keys c.loop-place.invariant.below (omega arith) w.if-levels-place-ge-FIRST.false in
           let items : c.loop-place.keys.items ≡ c.if-levels-place-ge-FIRST.keys.items = ap (λ v. v.items) (sym w.keys-is) in
           record { keys = subst (λ ks. AreKeys levels (n + 1) ks) items skip.0; below = subst (λ ks. AreBelow (n + 1) ks) items skip.1 }
     ]
