@@ -3,6 +3,7 @@
 -- Closings: levels of cells that are in no wave.
 -- Dones: when cells are done.
 -- Emits: cells that stand in their waves, one cell more.
+-- Endings: what levels say of waves in the end.
 -- Found: cells at places of a list in order.
 -- Fronts: marks of the first rows of a run.
 -- KeyLists: numbers of the cells that have waves.
@@ -22,6 +23,7 @@ pub mod Cells
 pub mod Closings
 pub mod Dones
 pub mod Emits
+pub mod Endings
 pub mod Found
 pub mod Fronts
 pub mod KeyLists

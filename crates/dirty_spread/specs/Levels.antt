@@ -3,10 +3,8 @@
 use Rattle.std.specs.Prelude.{◌≡◌, ◌≢◌, ◌≤◌, ◌<◌, ◌⊎◌, ℕ, suc, ◌+◌, ◌*◌, ◌==◌, true, false, List, length, slice_index, slice_index_or, Contains}
 use Rattle.std.specs.List.{All, AllPairs, count_by, list_any}
 use Rattle.calc_addr.specs.Places.{Place, Rectangle, covers}
-use Rattle.calc_model.specs.Listeners.{ReadAreas, listed}
-use Rattle.calc_model.specs.Scalars.{CellValues}
+use Rattle.calc_model.specs.Listeners.{listed}
 use Rattle.calc_model.specs.Touched.{CellSet}
-use Rattle.calc_model.specs.UsedCells.{is_circle}
 use Rattle.dirty_spread.specs.declared.look.Cursor.{Cursor}
 use Rattle.dirty_spread.specs.declared.look.Frame.{Frame}
 use Rattle.dirty_spread.specs.declared.look.Seen.{Seen}
@@ -108,7 +106,3 @@ IsClosable levels f = (f.place < length levels) × ((level levels f.place ≡ 1)
 
 abbrev pub IsCircular : List ℕ → Frame → Type 0
 IsCircular levels f = level levels f.place ≡ 2
-
--- what is asked of stale cells, by what shows values
-abbrev pub problem_of : ReadAreas → List Place → CellValues → Problem
-problem_of read stale values = record { read = read; stale = stale; circular = λ q. is_circle (values q) }

@@ -6,7 +6,9 @@ use Rattle.std.specs.Ordering.{eq_by_cmp}
 use Rattle.calc_addr.specs.Places.{IsBefore, Place, covers, place_cmp}
 use Rattle.calc_model.specs.Grounded.{all_cells}
 use Rattle.calc_model.specs.Listeners.{ReadAreas, listed}
+use Rattle.calc_model.specs.Scalars.{CellValues}
 use Rattle.calc_model.specs.Touched.{CellSet}
+use Rattle.calc_model.specs.UsedCells.{is_circle}
 
 -- whether the cell is one of the list's
 abbrev pub has : List Place → CellSet
@@ -17,6 +19,10 @@ pub record Problem : Type 0 where
   pub read : ReadAreas
   pub stale : List Place
   pub circular : CellSet
+
+-- the problem of stale cells, by what shows the values of the others
+abbrev pub problem_of : ReadAreas → List Place → CellValues → Problem
+problem_of read stale values = record { read = read; stale = stale; circular = λ q. is_circle (values q) }
 
 -- The cell is done before the wave of that number: each cell that it reads was done before the wave in front, if it is
 -- stale, and shows no circle otherwise.
@@ -44,7 +50,3 @@ pub record AreAll (IsOne : Place → Type 0) (cells : List Place) : Type 0 where
 pub record AreWaves (problem : Problem) (waves : List (List Place)) : Type 0 where
   pub each : (k : ℕ) → AreAll (IsInWave problem k) (slice_index_or waves k [])
   pub some : (k : ℕ) → k < length waves → slice_index_or waves k [] ≢ []
-
--- Each formula that reads a stale cell is stale.
-abbrev pub IsClosed : ReadAreas → List Place → Type 0
-IsClosed read stale = (q p : Place) → Contains stale p → list_any (λ area. covers area p) (listed (read q)) ≡ true → Contains stale q

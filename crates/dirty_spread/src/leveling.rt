@@ -4,18 +4,18 @@ ghost use Rattle.std.specs.List.{All, AllPairs};
 ghost use Rattle.calc_addr.specs.Places.{IsBefore};
 ghost use Rattle.calc_model.specs.Listeners.{listed};
 ghost use Rattle.dirty_spread.specs.Finding.{at};
-ghost use Rattle.dirty_spread.specs.Levels.{AreLevels, IsCircular, IsClosable, IsClosed, IsOpen, IsOrdering, level, problem_of, rest};
+ghost use Rattle.dirty_spread.specs.Waves.{problem_of};
+ghost use Rattle.dirty_spread.specs.Levels.{AreLevels, IsCircular, IsClosable, IsClosed, IsOpen, IsOrdering, level, rest};
 
-use crate::look::{Cursor, Frame, Seen, look};
+use crate::look::{CIRCULAR, Cursor, Frame, Seen, look};
 use calc_addr::{Area, NoMemory};
 use calc_model::{Dependents, Values};
 use cell_runs::CellRuns;
 use std::alloc::Global;
 
-/// The level of a cell that wasn't looked at, of one that is being looked at, and of one in no wave.
+/// The level of a cell that wasn't looked at, and of one that is being looked at.
 const NEW: usize = 0;
 const OPEN: usize = 1;
-const CIRCULAR: usize = 2;
 
 /// Says of cells that they are in no wave.
 fn close(path: &[Frame], levels: &mut [usize])

@@ -12,3 +12,5 @@ mod wave_list;
 mod waves;
 
 pub use spreading::spread;
+pub use wave_list::WaveList;
+pub use waves::{Waves, order};

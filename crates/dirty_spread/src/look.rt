@@ -11,6 +11,9 @@ use calc_addr::Area;
 use calc_model::Values;
 use cell_runs::CellRuns;
 
+/// The level of a cell in no wave.
+pub(crate) const CIRCULAR: usize = 2;
+
 /// The least level of a cell that has a wave.
 pub(crate) const FIRST: usize = 3;
 

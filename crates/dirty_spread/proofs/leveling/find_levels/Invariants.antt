@@ -1,5 +1,6 @@
 use Rattle.std.proofs.Common.{◌≡◌, ◌≢◌, ◌<◌, ℕ, [], length}
-use Rattle.dirty_spread.specs.Levels.{IsOrdering, level, problem_of}
+use Rattle.dirty_spread.specs.Levels.{IsOrdering, level}
+use Rattle.dirty_spread.specs.Waves.{problem_of}
 use Rattle.dirty_spread.proofs.leveling.find_levels.Given as goal
 
 abbrev pub invariant-loop-place : goal.invariant-loop-place

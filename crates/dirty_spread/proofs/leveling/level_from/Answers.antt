@@ -1,8 +1,8 @@
 use Rattle.std.proofs.Common.{◌≡◌, ◌∷◌, ◌++◌, [], List, sym, ap, subst, ◌∙◌}
 use Rattle.std.proofs.Math.ListN.{set}
 use Rattle.dirty_spread.specs.declared.look.Frame.{Frame}
-use Rattle.dirty_spread.specs.Levels.{IsOrdering, problem_of}
-use Rattle.dirty_spread.specs.Waves.{Problem}
+use Rattle.dirty_spread.specs.Levels.{IsOrdering}
+use Rattle.dirty_spread.specs.Waves.{Problem, problem_of}
 use Rattle.dirty_spread.proofs.Orders.{begin, begin_kept, begin_place}
 use Rattle.dirty_spread.proofs.leveling.level_from.Goals as goal
 

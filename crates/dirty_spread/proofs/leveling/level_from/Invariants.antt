@@ -1,5 +1,6 @@
 use Rattle.std.proofs.Common.{◌≡◌, ◌≢◌, ℕ}
-use Rattle.dirty_spread.specs.Levels.{IsOrdering, level, problem_of, rest}
+use Rattle.dirty_spread.specs.Levels.{IsOrdering, level, rest}
+use Rattle.dirty_spread.specs.Waves.{problem_of}
 use Rattle.dirty_spread.proofs.leveling.level_from.Given as goal
 
 abbrev pub invariant-loop-frame : goal.invariant-loop-frame
