@@ -1,12 +1,11 @@
 -- Which cells are in a list, and which cells beside show circles.
-use Rattle.std.proofs.Common.{◌≡◌, ℕ, ◌≤◌, Bool, true, false, List, refl, sym, ap, subst, ◌∙◌}
-use Rattle.std.specs.List.{Contains, list_any}
-use Rattle.std.specs.Ordering.{eq_by_cmp}
-use Rattle.std.proofs.lemmas.Bool.{cases_Bool, false_from_ne_true, false≢true}
+use Rattle.std.proofs.Common.{◌≡◌, true, false, List, sym, ◌∙◌}
+use Rattle.std.specs.List.{Contains}
+use Rattle.std.proofs.lemmas.Bool.{false_from_ne_true, false≢true}
 use Rattle.std.proofs.lemmas.Cmp.{eq_by_cmp_equiv}
 use Rattle.std.proofs.lemmas.List.Folds.{Any-from_list_any, list_any-from_Any}
 use Rattle.std.proofs.lemmas.Map.Views.{Contains-from_any, list_any-from_Contains}
-use Rattle.calc_addr.specs.Places.{Place, Rectangle, covers, place_cmp, places}
+use Rattle.calc_addr.specs.Places.{Place, Rectangle, covers, places}
 use Rattle.calc_addr.proofs.Walking.Places.{Contains-places, covers-contained}
 use Rattle.calc_model.proofs.Places.{places_total, same_places}
 use Rattle.calc_model.specs.Scalars.{CellValues}

@@ -1,19 +1,17 @@
 -- When cells are done: each once all that it reads are, and for ever after.
-use Rattle.std.proofs.Common.{◌≡◌, ℕ, zero, suc, ◌+◌, ◌-◌, ◌<◌, ◌≤◌, ◌⊎◌, Bool, true, false, not, ◌&&◌, ◌||◌, cond, List, [], ◌∷◌, length, get_or, refl, sym, ap, subst, ◌∙◌, ⊎_elim, arith}
+use Rattle.std.proofs.Common.{◌≡◌, ℕ, zero, suc, ◌+◌, ◌-◌, ◌<◌, ◌≤◌, Bool, true, false, not, ◌||◌, List, [], ◌∷◌, length, refl, sym, ap, subst, ◌∙◌, ⊎_elim, arith}
 use Rattle.std.specs.Prelude.{if◌then◌else◌}
-use Rattle.std.specs.List.{Contains, list_all, list_any}
+use Rattle.std.specs.List.{list_all, list_any}
 use Rattle.std.proofs.lemmas.Bool.{and_from, cases_Bool, false_from_ne_true, false≢true, not-true, or_cases}
 use Rattle.std.proofs.lemmas.List.{get_or_default}
 use Rattle.std.proofs.lemmas.List.Folds.{Any-from_list_any}
 use Rattle.calc_addr.specs.Places.{Place, Rectangle, covers, places}
 use Rattle.calc_model.proofs.Areas.{all_places, both_true, places_all}
 use Rattle.calc_model.specs.Grounded.{all_cells}
-use Rattle.calc_model.specs.Listeners.{ReadAreas, listed}
+use Rattle.calc_model.specs.Listeners.{listed}
 use Rattle.calc_model.specs.Touched.{CellSet}
 use Rattle.dirty_spread.specs.Levels.{Leads, area_at, is_in_one}
-use Rattle.dirty_spread.specs.Marking.{reads_cell}
 use Rattle.dirty_spread.specs.Waves.{Problem, has, is_done}
-use Rattle.dirty_spread.proofs.Beside.{held_has}
 
 pub all_of_read : (f : CellSet) (areas : List Rectangle) → ((q : Place) → is_in_one areas q → f q ≡ true) → all_cells f areas ≡ true
 all_of_read f [] h = refl

@@ -1,14 +1,11 @@
 -- Cells at places of a list in order.
-use Rattle.std.proofs.Common.{◌≡◌, ℕ, ◌+◌, ◌<◌, ◌≤◌, ◌⊎◌, true, false, List, length, get_or, slice_get, Some, None, inl, inr, refl, sym, ap, subst, ◌∙◌, ⊎_elim, arith}
+use Rattle.std.proofs.Common.{◌≡◌, ℕ, ◌<◌, ◌≤◌, ◌⊎◌, false, List, length, slice_get, Some, None, sym, subst, ◌∙◌, ⊎_elim, arith}
 use Rattle.std.specs.List.{AllPairs, Contains}
-use Rattle.std.specs.declared.cmp.Ordering.{Ordering}
-use Rattle.std.specs.declared.cmp.Ordering.TheVariants.{Less}
-use Rattle.std.specs.Cmp.{IsTotalOrder}
 use Rattle.std.proofs.lemmas.Bool.{cases_lt, cases_order}
 use Rattle.std.proofs.lemmas.Cmp.{tied_itself}
 use Rattle.std.proofs.lemmas.List.{get_or_default}
 use Rattle.std.proofs.lemmas.Option.{get_or_from_slice_get, slice_get_within, slice_get-get_or}
-use Rattle.calc_addr.specs.Places.{IsBefore, Place, Rectangle, covers, place_cmp}
+use Rattle.calc_addr.specs.Places.{IsBefore, Place, Rectangle, covers}
 use Rattle.calc_model.proofs.Places.{places_total}
 use Rattle.dirty_spread.specs.Finding.{IsFirstFrom, IsNextIn, at}
 

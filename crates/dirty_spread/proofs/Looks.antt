@@ -1,6 +1,5 @@
 -- Areas looked at, one more or as far as a cell that has no wave.
-use Rattle.std.proofs.Common.{◌≡◌, ℕ, ◌+◌, ◌<◌, ◌≤◌, ◌⊎◌, true, false, List, length, get_or, inl, inr, refl, sym, ap, subst, ◌∙◌, ⊎_elim, arith}
-use Rattle.std.specs.List.{list_any}
+use Rattle.std.proofs.Common.{◌≡◌, ℕ, ◌+◌, ◌<◌, ◌≤◌, ◌⊎◌, true, false, List, length, get_or, inl, inr, sym, subst, ◌∙◌, ⊎_elim, arith}
 use Rattle.std.proofs.lemmas.Bool.{cases_lt, cases_order, false_from_ne_true}
 use Rattle.std.proofs.lemmas.List.{get_or_default}
 use Rattle.std.proofs.lemmas.List.Folds.{list_any_at}
@@ -8,7 +7,7 @@ use Rattle.calc_addr.specs.Places.{Place, Rectangle, covers}
 use Rattle.calc_model.specs.Touched.{CellSet}
 use Rattle.dirty_spread.specs.declared.look.Cursor.{Cursor}
 use Rattle.dirty_spread.specs.Finding.{at}
-use Rattle.dirty_spread.specs.Levels.{IsCircleBeside, IsLooked, IsOpen, IsScan, IsSettled, area_at, is_in_one, level}
+use Rattle.dirty_spread.specs.Levels.{IsLooked, IsOpen, IsScan, IsSettled, area_at, is_in_one, level}
 use Rattle.dirty_spread.specs.Waves.{has}
 
 pub settled_up : (levels : List ℕ) (low high i : ℕ) → low ≤ high → IsSettled levels low i → IsSettled levels high i

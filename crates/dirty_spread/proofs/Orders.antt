@@ -1,13 +1,13 @@
 -- Levels of stale cells, one step more.
-use Rattle.std.proofs.Common.{◌≡◌, ◌≢◌, ℕ, zero, suc, ◌+◌, ◌-◌, ◌*◌, ◌<◌, ◌≤◌, ◌⊎◌, Bool, true, false, not, cond, List, [], ◌∷◌, ◌++◌, length, get_or, inl, inr, refl, sym, ap, subst, ◌∙◌, ⊎_elim, length-append, arith}
+use Rattle.std.proofs.Common.{◌≡◌, ◌≢◌, ℕ, zero, suc, ◌+◌, ◌-◌, ◌*◌, ◌<◌, ◌≤◌, ◌⊎◌, true, false, not, cond, List, [], ◌∷◌, ◌++◌, length, get_or, inl, inr, refl, sym, ap, subst, ◌∙◌, ⊎_elim, length-append, arith}
 use Rattle.std.specs.Prelude.{◌==◌, if◌then◌else◌}
-use Rattle.std.specs.List.{All, AllPairs, Contains, count_by, list_any}
+use Rattle.std.specs.List.{All, AllPairs, Contains, count_by}
 use Rattle.std.proofs.Math.ListN.{set}
 use Rattle.std.proofs.Math.Seq.{get_or-append_seam}
 use Rattle.std.proofs.lemmas.Bool.Decides.{nat_tests}
-use Rattle.std.proofs.lemmas.Bool.{cases_eq, cases_lt, cases_order, cases_Bool, false≢true}
-use Rattle.std.proofs.lemmas.List.{get_or-set_other, get_or-set_same, get_or_append_left, length-set, get_or_past}
-use Rattle.std.proofs.lemmas.List.Elements.{All-append, All-contains, All-push, Contains-append_cases, Contains-append_left, Contains-append_right, Contains-push, Contains-push_cases}
+use Rattle.std.proofs.lemmas.Bool.{cases_eq, cases_lt, cases_Bool}
+use Rattle.std.proofs.lemmas.List.{get_or-set_other, get_or-set_same, get_or_append_left, length-set}
+use Rattle.std.proofs.lemmas.List.Elements.{All-contains, All-push, Contains-append_left, Contains-push, Contains-push_cases}
 use Rattle.std.proofs.lemmas.List.Quantifiers.{all_pairs_push}
 use Rattle.std.proofs.lemmas.List.Sums.{count_by-le-length, sum_by-set}
 use Rattle.calc_addr.specs.Places.{Place, Rectangle, covers}
@@ -18,7 +18,7 @@ use Rattle.dirty_spread.specs.Finding.{at}
 use Rattle.dirty_spread.specs.Levels.{AreLevels, IsCircleBeside, IsClosable, IsClosed, IsLooked, IsOpen, IsOrdering, IsSettled, Leads, area_at, is_in_one, level, read_by, rest}
 use Rattle.dirty_spread.specs.Waves.{Problem, has, is_done}
 use Rattle.dirty_spread.proofs.Beside.{has_held, held_has}
-use Rattle.dirty_spread.proofs.Dones.{area_of_one, by_done, done_by, good_other, good_stale, later_than, leads_itself, leads_on, never_around, never_by, never_on, never_read, reader_later, stale_good}
+use Rattle.dirty_spread.proofs.Dones.{area_of_one, done_by, good_other, good_stale, later_than, leads_itself, leads_on, never_around, never_by, never_on, never_read, reader_later}
 use Rattle.dirty_spread.proofs.Found.{at_holds, at_of}
 
 -- levels that agree where a cell has a wave

@@ -1,7 +1,7 @@
 -- Worked examples of waves: `B1` reads `A1:A2`, `C1` reads `B1` and `A1`, and `D1` and `E1` read each other.
-use Rattle.std.proofs.Common.{◌≡◌, ℕ, true, false, List, [], ◌∷◌, Option, Some, None, cond, refl}
+use Rattle.std.proofs.Common.{◌≡◌, ℕ, true, false, [], ◌∷◌, Some, None, cond, refl}
 use Rattle.std.specs.Ordering.{eq_by_cmp}
-use Rattle.calc_addr.specs.Places.{Place, Rectangle, place_cmp, single}
+use Rattle.calc_addr.specs.Places.{Place, place_cmp, single}
 use Rattle.calc_model.specs.Listeners.{ReadAreas}
 use Rattle.calc_model.specs.Touched.{CellSet}
 use Rattle.dirty_spread.specs.Waves.{Problem, is_done}

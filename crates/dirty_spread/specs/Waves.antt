@@ -1,9 +1,9 @@
 -- In which order stale formulas are calculated: each in the first wave behind those of all stale cells that it reads.
 -- A stale formula that reaches a circle, or a cell outside the stale ones that shows one, is in no wave.
-use Rattle.std.specs.Prelude.{◌≡◌, ◌≢◌, ◌<◌, ◌↔◌, ℕ, zero, suc, Bool, true, false, not, List, [], length, slice_index_or, Contains, if◌then◌else◌}
+use Rattle.std.specs.Prelude.{◌≡◌, ◌≢◌, ◌<◌, ◌↔◌, ℕ, zero, suc, true, false, not, List, [], length, slice_index_or, Contains, if◌then◌else◌}
 use Rattle.std.specs.List.{AllPairs, list_any}
 use Rattle.std.specs.Ordering.{eq_by_cmp}
-use Rattle.calc_addr.specs.Places.{IsBefore, Place, covers, place_cmp}
+use Rattle.calc_addr.specs.Places.{IsBefore, Place, place_cmp}
 use Rattle.calc_model.specs.Grounded.{all_cells}
 use Rattle.calc_model.specs.Listeners.{ReadAreas, listed}
 use Rattle.calc_model.specs.Scalars.{CellValues}

@@ -15,6 +15,7 @@ use std::alloc::Global;
 
 /// The level of a cell that wasn't looked at, and of one that is being looked at.
 const NEW: usize = 0;
+
 const OPEN: usize = 1;
 
 /// Says of cells that they are in no wave.
@@ -51,8 +52,10 @@ fn descend(
     ensures levels { levels.new ≡ slice_set levels.old cursor.now.next 1 }
     ensures path { OnOk result (path.new.items
         ≡ (path.old.items ++ record { place = place; cursor = cursor.now } ∷ [])
-        ++ record { place = cursor.now.next;
-        cursor = record { area = 0; next = 0; greatest = 2 } } ∷ []) }
+        ++ record {
+          place = cursor.now.next;
+          cursor = record { area = 0; next = 0; greatest = 2 };
+        } ∷ []) }
 {
     levels[cursor.next] = OPEN;
     path.push(Frame {
@@ -65,8 +68,10 @@ fn descend(
 
 /// A cell of which nothing was looked at.
 fn frame_at(place: usize) -> Frame
-    ensures { result ≡ record { place = place;
-        cursor = record { area = 0; next = 0; greatest = 2 } } }
+    ensures { result ≡ record {
+      place = place;
+      cursor = record { area = 0; next = 0; greatest = 2 };
+    } }
 {
     Frame {
         place,

@@ -1,8 +1,7 @@
-use Rattle.std.proofs.Common.{◌≡◌, ◌≤◌, false, true, not, ℕ, refl, sym, ap, subst, ◌∙◌, arith}
+use Rattle.std.proofs.Common.{◌≡◌, false, true, sym, ap, subst, ◌∙◌, arith}
 use Rattle.std.proofs.lemmas.Bool.{false≢true, not-true, not-false}
-use Rattle.calc_addr.specs.Places.{IsRectangle, Place, Rectangle, corner, covers}
+use Rattle.calc_addr.specs.Places.{IsRectangle, Rectangle, corner}
 use Rattle.calc_model.specs.UsedCells.{has_circle}
-use Rattle.dirty_spread.specs.Finding.{IsCircleIn}
 use Rattle.dirty_spread.specs.Waves.{has}
 use Rattle.dirty_spread.proofs.Beside.{circle_in, no_circle_in}
 use Rattle.dirty_spread.proofs.Stepping.{only_cell}

@@ -1,4 +1,4 @@
-use Rattle.std.proofs.Common.{◌≡◌, not, sym, ap}
+use Rattle.std.proofs.Common.{not, sym, ap}
 use Rattle.std.proofs.lemmas.Option.{get_or_from_slice_get, slice_get_within}
 use Rattle.dirty_spread.proofs.Beside.{absent_has, held_has}
 use Rattle.dirty_spread.proofs.circles.lacks.Goals as goal

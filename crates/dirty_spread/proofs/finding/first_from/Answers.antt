@@ -1,7 +1,6 @@
-use Rattle.std.proofs.Common.{◌≡◌, ◌≤◌, ℕ, true, sym, subst, ◌∙◌, arith}
+use Rattle.std.proofs.Common.{sym, subst, ◌∙◌, arith}
 use Rattle.std.proofs.lemmas.Bool.{false≢true}
 use Rattle.calc_addr.specs.Places.{IsBefore}
-use Rattle.dirty_spread.specs.Finding.{at}
 use Rattle.dirty_spread.proofs.Found.{at_none, at_some, up_to}
 use Rattle.dirty_spread.proofs.finding.first_from.Goals as goal
 

@@ -1,6 +1,5 @@
-use Rattle.std.proofs.Common.{◌≡◌, ◌<◌, ◌≤◌, ℕ, false, length, sym, ap, subst, ◌∙◌, arith}
-use Rattle.calc_addr.specs.Places.{covers}
-use Rattle.dirty_spread.specs.Finding.{IsNextIn, at}
+use Rattle.std.proofs.Common.{◌<◌, sym, subst, ◌∙◌, arith}
+use Rattle.dirty_spread.specs.Finding.{IsNextIn}
 use Rattle.dirty_spread.proofs.Found.{at_none, at_some, skipped_all, skipped_none, skipped_on}
 use Rattle.dirty_spread.proofs.finding.next_in.Goals as goal
 

@@ -1,4 +1,4 @@
-use Rattle.std.proofs.Common.{◌≡◌, subst}
+use Rattle.std.proofs.Common.{subst}
 use Rattle.std.specs.List.{All}
 use Rattle.dirty_spread.specs.Levels.{IsCircular}
 use Rattle.dirty_spread.proofs.Closings.{closed_path}

@@ -1,4 +1,4 @@
-use Rattle.std.proofs.Common.{◌≡◌, ◌≢◌, ◌<◌, ℕ, [], length}
+use Rattle.std.proofs.Common.{◌≡◌, ◌≢◌, ◌<◌, ℕ, []}
 use Rattle.dirty_spread.specs.Levels.{IsOrdering, level}
 use Rattle.dirty_spread.specs.Waves.{problem_of}
 use Rattle.dirty_spread.proofs.leveling.find_levels.Given as goal

@@ -1,10 +1,8 @@
-use Rattle.std.proofs.Common.{◌≡◌, ◌<◌, ◌≤◌, ◌++◌, ◌∷◌, [], ℕ, List, length, sym, ap, subst, ◌∙◌}
+use Rattle.std.proofs.Common.{◌≡◌, ◌≤◌, List, length, sym, subst, ◌∙◌}
 use Rattle.std.proofs.Math.ListN.{set}
-use Rattle.calc_addr.specs.Places.{Place, Rectangle}
-use Rattle.calc_model.specs.Touched.{CellSet}
-use Rattle.calc_model.specs.UsedCells.{is_circle}
+use Rattle.calc_addr.specs.Places.{Rectangle}
 use Rattle.dirty_spread.specs.declared.look.Frame.{Frame}
-use Rattle.dirty_spread.specs.Levels.{IsCircleBeside, IsLooked, IsOpen, IsOrdering, read_by, rest}
+use Rattle.dirty_spread.specs.Levels.{IsCircleBeside, IsLooked, IsOpen, IsOrdering, read_by}
 use Rattle.dirty_spread.specs.Waves.{Problem, problem_of}
 use Rattle.dirty_spread.proofs.Cells.{on_ok}
 use Rattle.dirty_spread.proofs.Orders.{circle, descend, never_circle, never_open, settle, settle_less}

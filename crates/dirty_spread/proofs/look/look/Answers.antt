@@ -1,5 +1,4 @@
-use Rattle.std.proofs.Common.{◌≡◌, ◌<◌, ◌≤◌, true, length, sym, subst, ◌∙◌, arith}
-use Rattle.calc_addr.specs.Places.{Rectangle}
+use Rattle.std.proofs.Common.{◌<◌, length, arith}
 use Rattle.calc_model.specs.Touched.{CellSet}
 use Rattle.calc_model.specs.UsedCells.{is_circle}
 use Rattle.dirty_spread.proofs.Looks.{look_next, look_open}

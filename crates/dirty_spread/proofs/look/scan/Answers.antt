@@ -1,4 +1,4 @@
-use Rattle.std.proofs.Common.{◌≡◌, ◌<◌, ◌≤◌, ℕ, max, length, sym, subst, arith}
+use Rattle.std.proofs.Common.{sym, subst, arith}
 use Rattle.dirty_spread.specs.Levels.{IsScan}
 use Rattle.dirty_spread.proofs.Scans.{scan_more}
 use Rattle.dirty_spread.proofs.look.scan.Goals as goal

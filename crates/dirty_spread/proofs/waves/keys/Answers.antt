@@ -1,4 +1,4 @@
-use Rattle.std.proofs.Common.{◌≡◌, ◌+◌, ◌*◌, ◌^◌, ◌++◌, ◌∷◌, [], ℕ, List, sym, ap, subst, ◌∙◌, arith}
+use Rattle.std.proofs.Common.{◌≡◌, ◌+◌, ◌++◌, ◌∷◌, [], sym, ap, subst, ◌∙◌, arith}
 use Rattle.dirty_spread.specs.WaveKeys.{AreKeys, key}
 use Rattle.dirty_spread.proofs.KeyLists.{AreBelow, keys_more, keys_none, keys_skip}
 use Rattle.dirty_spread.proofs.waves.keys.Goals as goal

@@ -1,4 +1,4 @@
-use Rattle.std.proofs.Common.{◌≤◌, ◌<◌, ◌%◌, ◌^◌, length}
+use Rattle.std.proofs.Common.{◌<◌, ◌%◌, ◌^◌}
 use Rattle.std.specs.List.{All}
 use Rattle.dirty_spread.specs.WaveKeys.{AreKeys}
 use Rattle.dirty_spread.proofs.waves.keys.Given as goal

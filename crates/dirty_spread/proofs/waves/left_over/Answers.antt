@@ -1,4 +1,4 @@
-use Rattle.std.proofs.Common.{◌≡◌, ◌<◌, ◌+◌, ◌++◌, ◌∷◌, [], ℕ, List, length, sym, ap, subst, ◌∙◌, arith}
+use Rattle.std.proofs.Common.{◌≡◌, ◌<◌, ◌+◌, ◌++◌, ◌∷◌, [], List, length, sym, subst, ◌∙◌, arith}
 use Rattle.calc_addr.specs.Places.{Place}
 use Rattle.dirty_spread.specs.Finding.{at}
 use Rattle.dirty_spread.specs.WaveKeys.{IsLeft}

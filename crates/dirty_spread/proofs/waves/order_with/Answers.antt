@@ -1,4 +1,3 @@
-use Rattle.dirty_spread.specs.Levels.{AreLevels}
 use Rattle.dirty_spread.specs.Waves.{Problem, problem_of}
 use Rattle.dirty_spread.proofs.Endings.{are_left, are_waves, gapless}
 use Rattle.dirty_spread.proofs.waves.order_with.Goals as goal

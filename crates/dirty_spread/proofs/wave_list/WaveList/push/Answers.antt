@@ -1,4 +1,4 @@
-use Rattle.std.proofs.Common.{◌≡◌, ◌<◌, ◌-◌, ◌∷◌, ◌++◌, [], ℕ, List, length, sym, ap, subst, ◌∙◌, arith}
+use Rattle.std.proofs.Common.{◌≡◌, ◌<◌, ◌-◌, ◌∷◌, ◌++◌, [], List, length, sym, ap, subst, ◌∙◌, arith}
 use Rattle.calc_addr.specs.Places.{Place, Rows}
 use Rattle.dirty_spread.specs.WaveKeys.{IsAdded}
 use Rattle.dirty_spread.specs.WaveLists.{AreStarts, lists_of}

@@ -1,6 +1,6 @@
-use Rattle.std.proofs.Common.{◌≡◌, ◌<◌, [], length, get_or, sym, ap, subst, ◌∙◌, arith}
+use Rattle.std.proofs.Common.{◌<◌, [], length, get_or, sym, ap, subst, ◌∙◌, arith}
 use Rattle.cell_runs.specs.CellLists.{all_cells}
-use Rattle.dirty_spread.specs.WaveLists.{AreStarts, lists_of, part}
+use Rattle.dirty_spread.specs.WaveLists.{AreStarts, part}
 use Rattle.dirty_spread.proofs.PartLists.{list_at, lists_size}
 use Rattle.dirty_spread.proofs.wave_list.WaveList.wave.Goals as goal
 
