@@ -1,0 +1,40 @@
+-- Beside: which cells are in a list, and which beside show circles.
+-- Cells: the cells of runs, as a list and as a test.
+-- Closings: levels of cells that are in no wave.
+-- Dones: when cells are done.
+-- Emits: cells that stand in their waves, one cell more.
+-- Endings: what levels say of waves in the end.
+-- Found: cells at places of a list in order.
+-- Fronts: marks of the first rows of a run.
+-- KeyLists: numbers of the cells that have waves.
+-- Listing: the places of a run's cells in a list in order.
+-- Looks: areas looked at, one more.
+-- Orders: levels of stale cells, one step more.
+-- PartLists: lists of cells that are kept as runs.
+-- Reading: which cells are formula cells, and which are stale, by what they read.
+-- Scans: levels of the cells of an area, one cell more.
+-- SpreadExamples: worked examples of stale cells.
+-- Spreads: what a search of stale cells has found.
+-- Stepping: marks one after the other.
+-- Sweeps: one run more of those whose cells stand in a list.
+-- WaveExamples: worked examples of waves.
+pub mod Beside
+pub mod Cells
+pub mod Closings
+pub mod Dones
+pub mod Emits
+pub mod Endings
+pub mod Found
+pub mod Fronts
+pub mod KeyLists
+pub mod Listing
+pub mod Looks
+pub mod Orders
+pub mod PartLists
+pub mod Reading
+pub mod Scans
+mod SpreadExamples
+pub mod Spreads
+pub mod Stepping
+pub mod Sweeps
+mod WaveExamples

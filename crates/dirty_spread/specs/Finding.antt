@@ -1,0 +1,33 @@
+-- Places of cells in a list in order.
+use Rattle.std.specs.Prelude.{◌≡◌, ◌≤◌, ◌<◌, ℕ, true, false, List, length, slice_index_or, Option, Some, None}
+use Rattle.calc_addr.specs.Places.{IsBefore, Place, Rectangle, covers}
+use Rattle.calc_model.specs.Scalars.{CellValues}
+use Rattle.calc_model.specs.UsedCells.{is_circle}
+use Rattle.dirty_spread.specs.Waves.{has}
+
+-- the cell at a place of the list
+abbrev pub at : List Place → ℕ → Place
+at cells i = slice_index_or cells i (record { sheet = 0; col = 0; row = 0 })
+
+-- The place is that of the first cell that isn't before a cell, or behind all.
+pub record IsFirstFrom (cells : List Place) (cell : Place) (place : ℕ) : Type 0 where
+  pub within : place ≤ length cells
+  pub before : (i : ℕ) → i < place → IsBefore (at cells i) cell
+  pub from : (i : ℕ) → place ≤ i → i < length cells → IsBefore (at cells i) cell → ⊥
+
+-- The place is that of the first cell of an area from a place on, or behind all.
+pub record IsNextIn (cells : List Place) (area : Rectangle) (from place : ℕ) : Type 0 where
+  pub within : place ≤ length cells
+  pub here : place < length cells → covers area (at cells place) ≡ true
+  pub none : (i : ℕ) → from ≤ i → i < place → covers area (at cells i) ≡ false
+
+-- Behind a cell that isn't in the area no cell before that one is, or none at all.
+abbrev pub IsSkip : Rectangle → Place → Option Place → Type 0
+IsSkip area cell None = (q : Place) → IsBefore cell q → covers area q ≡ false
+IsSkip area cell (Some next) = IsBefore cell next × ((q : Place) → IsBefore cell q → IsBefore q next → covers area q ≡ false)
+
+-- The cell of an area isn't in the list and shows a circle.
+pub record IsCircleIn (cells : List Place) (values : CellValues) (area : Rectangle) (q : Place) : Type 0 where
+  pub covered : covers area q ≡ true
+  pub beside : has cells q ≡ false
+  pub circle : is_circle (values q) ≡ true

@@ -1,0 +1,16 @@
+//! Which formulas are stale after an edit, and in which order stale formulas are calculated.
+#![tactic(auto)]
+
+mod circles;
+mod finding;
+mod leveling;
+mod look;
+mod marking;
+mod spreading;
+mod union;
+mod wave_list;
+mod waves;
+
+pub use spreading::spread;
+pub use wave_list::WaveList;
+pub use waves::{Waves, order};

@@ -1,0 +1,107 @@
+//! What a stale cell reads, looked at until a cell is met that has no wave yet.
+ghost use Rattle.std.specs.Prelude.{◌≡◌, ◌≤◌, ◌<◌, false, length, true};
+ghost use Rattle.std.specs.List.{AllPairs};
+ghost use Rattle.calc_addr.specs.Places.{IsBefore, Place, covers};
+ghost use Rattle.calc_model.specs.UsedCells.{is_circle};
+ghost use Rattle.dirty_spread.specs.Levels.{IsLooked, IsScan, IsSeen, level};
+
+use crate::circles::shows_circle;
+use crate::finding::next_in;
+use calc_addr::Area;
+use calc_model::Values;
+use cell_runs::CellRuns;
+
+/// The level of a cell in no wave.
+pub(crate) const CIRCULAR: usize = 2;
+
+/// The least level of a cell that has a wave.
+pub(crate) const FIRST: usize = 3;
+
+/// How far was looked: at the stale cells of the areas before one, and at those of that one before a
+/// place. The greatest of their levels is kept, or 2.
+#[derive(Clone, Copy)]
+pub(crate) struct Cursor {
+    pub area: usize,
+    pub next: usize,
+    pub greatest: usize,
+}
+
+/// A cell that is being looked at, by its place among the stale ones.
+#[derive(Clone, Copy)]
+pub(crate) struct Frame {
+    pub place: usize,
+    pub cursor: Cursor,
+}
+
+/// What was seen.
+#[derive(Clone, Copy)]
+pub(crate) enum Seen {
+    /// All stale cells have waves, and the others show no circle.
+    Settled(Cursor),
+    /// The next one has no wave.
+    Open(Cursor),
+    /// A cell that isn't stale shows a circle.
+    Circle,
+}
+
+/// Goes over the cells of an area from a place on while they have waves, and gives the place of the first
+/// that hasn't, or how many cells there are, and the greatest level.
+fn scan(
+    cells: &CellRuns,
+    levels: &[usize],
+    area: &Area,
+    from: usize,
+    least: usize,
+) -> (usize, usize)
+    requires in_order { AllPairs IsBefore cells.now }
+    requires size { length levels.now ≡ length cells.now }
+    requires within { from ≤ length cells.now }
+    ensures scan { IsScan cells.now levels.now area.now from least result.0 result.1 }
+    ensures stopped { result.0 < length cells.now → level levels.now result.0 ≤ 2 }
+{
+    let mut place = next_in(cells, area, from);
+    let mut greatest = least;
+    while place < levels.len() && levels[place] >= FIRST {
+        greatest = greatest.max(levels[place]);
+        place = next_in(cells, area, place + 1);
+    }
+    (place, greatest)
+}
+
+/// Looks at what a cell reads from a cursor on, until a cell is met that has no wave.
+pub(crate) fn look<V: Values>(
+    cells: &CellRuns,
+    ready: &V,
+    levels: &[usize],
+    areas: &[Area],
+    start: &Cursor,
+) -> Seen
+    requires in_order { AllPairs IsBefore cells.now }
+    requires size { length levels.now ≡ length cells.now }
+    requires looked { IsLooked cells.now (λ q. is_circle (V.values ready.now q))
+        areas.now levels.now start.now }
+    ensures { IsSeen cells.now (λ q. is_circle (V.values ready.now q))
+        areas.now levels.now result }
+{
+    let mut cursor = *start;
+    while cursor.area < areas.len() {
+        let area = &areas[cursor.area];
+        let (next, greatest) = scan(cells, levels, area, cursor.next, cursor.greatest);
+        if next < levels.len() {
+            return Seen::Open(Cursor {
+                area: cursor.area,
+                next,
+                greatest,
+            });
+        }
+        if shows_circle(cells, ready, area) {
+            return Seen::Circle;
+        }
+        cursor = Cursor {
+            area: cursor.area + 1,
+            next: 0,
+            greatest,
+        };
+    }
+    Seen::Settled(cursor)
+}
