@@ -13,14 +13,14 @@ ghost use Rattle.calc_model.specs.RowEdits.{cells_after_deletion, cells_after_in
 ghost use Rattle.formula_code.specs.Coded.{AreCoded, AreFormulasOf};
 ghost use Rattle.formula_groups.specs.GroupRows.{columns_of};
 ghost use Rattle.cell_columns.specs.ColumnRuns.{AllLie, IsSheetColumn, blocks_in, groups_in, rows_of_block, rows_of_group, rows_of_run};
-ghost use Rattle.cell_columns.specs.Looks.{IsLent};
+ghost use Rattle.cell_columns.specs.Looks.{AreSlotsOf, IsLent};
 ghost use Rattle.cell_columns.specs.Walks.{places_of};
 ghost use Rattle.book_parts.specs.Runs.{AreEmpty, IsCodedIn, moved_entries};
 
 use crate::copies::{area_at, copied_entries};
 use crate::generated::generated;
 use crate::rows::{Rows, is_pushed_out};
-use block_column::{Block, SlotRef};
+use block_column::{Block, BlockColumn, SlotRef};
 use calc_addr::{Area, Cell, LAST_ROW, LAST_SHEET, NoMemory};
 use calc_model::{Content, Looked, MOST_CELLS, MOST_GENERATED_ROWS, NameTable, Text};
 use calc_names::{NameFault, Names};
@@ -428,6 +428,14 @@ impl BookParts {
         ensures rows { AllLie (map (rows_of_block sheet col) result.now) }
     {
         self.cells.blocks(sheet, col)
+    }
+
+    /// What the rows of a column hold. It takes no time.
+    pub fn column(&self, sheet: u8, col: u16) -> &BlockColumn
+        requires { IsSheetColumn sheet col }
+        ensures { AreSlotsOf self.now sheet col result.now.slots }
+    {
+        self.cells.column(sheet, col)
     }
 
     /// The codes of all formulas. It takes no time.

@@ -11,6 +11,7 @@ ghost use Rattle.calc_model.specs.ValueTexts.{lent};
 ghost use Rattle.book_parts.specs.ShownCells.{shown_values};
 ghost use Rattle.listener_hub.specs.Hubs.{areas_read};
 ghost use Rattle.formula_listeners.specs.Held.{HoldsReads};
+ghost use Rattle.cell_columns.specs.Looks.{AreSlotsOf};
 ghost use Rattle.cell_columns.specs.ColumnRuns.{AllLie, IsSheetColumn, blocks_in, groups_in, rows_of_block, rows_of_group, rows_of_run};
 ghost use Rattle.calc_model.specs.declared.edit.EditCause.{EditCause};
 ghost use Rattle.workbook.specs.Touched.{contains_cell};
@@ -19,7 +20,7 @@ ghost use Rattle.workbook.specs.Workbook.{AfterNoMemory, IsFresh, IsRefused, Mad
 use crate::fault::EditFault;
 use crate::reach::reached;
 use crate::touched::Touched;
-use block_column::Block;
+use block_column::{Block, BlockColumn};
 use book_parts::{BookParts, ResultMap, ShownCells, shown};
 use calc_addr::{Area, Cell, NoMemory};
 use calc_model::{Content, Edit, EditCause, MOST_CELLS, Seen};
@@ -132,11 +133,11 @@ impl Workbook {
         self.book.parts().formula_count()
     }
 
-    /// Makes an edit. To set a cell takes the logarithm of the cells, and to clear an area that for each of
-    /// its columns and each cell that it empties. To copy an area takes the logarithm for each column and
-    /// each cell, and to fill one that for each cell. Row edits take it for each cell of the book, and are
-    /// linear in what formulas read. Edits of names take the logarithm of the names, and move those behind a
-    /// new one. The generated book takes the logarithm of its cells for each of them.
+    /// Makes an edit, and a spent hub anew before it. Each edit costs what it costs the parts of the book and
+    /// the hub: to set a cell what the setting of a slot in its column does, and to clear, copy or fill an
+    /// area that for each of its cells, with the groups of its columns. Row edits are linear in the blocks
+    /// and groups of the sheet's columns, in the formulas that change and in what all formulas read. Edits of
+    /// names go over all columns. The generated book costs what the setting of its cells does.
     pub fn edit(&mut self, alloc: Global, edit: &Edit) -> Result<(), EditFault>
         requires { is_makeable edit.now ≡ true }
         ensures done { OnOk result (Made self.old edit.now self.new) }
@@ -348,6 +349,14 @@ impl Workbook {
         ensures rows { AllLie (map (rows_of_block sheet col) result.now) }
     {
         self.book.parts().blocks(sheet, col)
+    }
+
+    /// What the rows of a column hold: a formula is there by its code. It takes no time.
+    pub fn column(&self, sheet: u8, col: u16) -> &BlockColumn
+        requires { IsSheetColumn sheet col }
+        ensures { AreSlotsOf self.now.book sheet col result.now.slots }
+    {
+        self.book.parts().column(sheet, col)
     }
 
     /// Which formulas read a cell. It takes no time.
