@@ -57,5 +57,5 @@ for edit in number kinds scattered insert delete fill; do
     spent="$(time_of "$edit")"
     awk -v edit="$edit" -v calc="$(((spent - idle) / lines))" '
         $1 == edit && (least == "" || $2 < least) { least = $2 }
-        END { printf "%-10s %10.1f %10.3f %10.0f\n", edit, calc / 1000, least / 1000, least > 0 ? calc / least : 0 }' plain
+        END { printf "%-10s %10.1f %10.3f %10.0f\n", edit, calc / 1000, least / 1000, (least > 0 ? calc / least : 0) }' plain
 done
