@@ -5,7 +5,7 @@ use Rattle.std.proofs.lemmas.Bool.{cases_lt, cases_order, false_from_ne_true}
 use Rattle.std.proofs.lemmas.Cmp.{tied_itself}
 use Rattle.std.proofs.lemmas.List.{get_or_default}
 use Rattle.std.proofs.lemmas.Option.{get_or_from_slice_get, slice_get_within, slice_get-get_or}
-use Rattle.calc_addr.specs.Places.{IsBefore, IsRectangle, Place, Rectangle, corner, covers, place_cmp}
+use Rattle.calc_addr.specs.Places.{IsBefore, IsRectangle, Place, Rectangle, corner, covers}
 use Rattle.calc_model.proofs.Places.{places_total}
 use Rattle.dirty_spread.proofs.Stepping.{covers_corner, only_cell}
 use Rattle.dirty_spread.specs.Finding.{IsFirstFrom, IsNextIn, at}
