@@ -20,8 +20,8 @@ fn is_before(first: &Cell, second: &Cell) -> bool
     first.row < second.row
 }
 
-/// The place of the first cell of a list that isn't before a cell, or how many there are. It takes the
-/// logarithm of the cells, times that of the runs.
+/// The place of the first cell of a list that isn't before a cell, or how many there are. It takes
+/// the logarithm of the cells, times that of the runs.
 fn first_from(cells: &CellRuns, cell: &Cell) -> usize
     requires { AllPairs IsBefore cells.now }
     ensures { IsFirstFrom cells.now cell.now result }
@@ -94,8 +94,8 @@ fn one_from(cells: &CellRuns, area: &Area, from: usize) -> usize
     }
 }
 
-/// The place of the first cell of an area from a place of the list on, or how many cells there are. It
-/// skips what lies between two columns of the area by a search.
+/// The place of the first cell of an area from a place of the list on, or how many cells there are.
+/// It skips what lies between two columns of the area by a search.
 fn next_of(cells: &CellRuns, area: &Area, from: usize) -> usize
     requires in_order { AllPairs IsBefore cells.now }
     requires within { from ≤ length cells.now }

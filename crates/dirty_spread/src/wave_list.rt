@@ -100,8 +100,8 @@ impl WaveList {
         Ok(())
     }
 
-    /// Lengthens the last run by a cell that goes on with it, where it is one of the last list, or answers
-    /// false.
+    /// Lengthens the last run by a cell that goes on with it, where it is one of the last list, or
+    /// answers false.
     fn lengthen(&mut self, cell: Cell) -> bool
         requires { self.old ≢ [] }
         ensures yes { IsTrue result → IsAdded self.old self.new (length self.old - 1) cell }
