@@ -1,12 +1,13 @@
 -- Cells at places of a list in order.
-use Rattle.std.proofs.Common.{◌≡◌, ℕ, ◌<◌, ◌≤◌, ◌⊎◌, false, List, length, slice_get, Some, None, sym, subst, ◌∙◌, ⊎_elim, arith}
+use Rattle.std.proofs.Common.{◌≡◌, ℕ, ◌<◌, ◌≤◌, ◌⊎◌, true, false, List, length, slice_get, Some, None, sym, subst, ◌∙◌, ⊎_elim, arith}
 use Rattle.std.specs.List.{AllPairs, Contains}
-use Rattle.std.proofs.lemmas.Bool.{cases_lt, cases_order}
+use Rattle.std.proofs.lemmas.Bool.{cases_lt, cases_order, false_from_ne_true}
 use Rattle.std.proofs.lemmas.Cmp.{tied_itself}
 use Rattle.std.proofs.lemmas.List.{get_or_default}
 use Rattle.std.proofs.lemmas.Option.{get_or_from_slice_get, slice_get_within, slice_get-get_or}
-use Rattle.calc_addr.specs.Places.{IsBefore, Place, Rectangle, covers}
+use Rattle.calc_addr.specs.Places.{IsBefore, IsRectangle, Place, Rectangle, corner, covers}
 use Rattle.calc_model.proofs.Places.{places_total}
+use Rattle.dirty_spread.proofs.Stepping.{covers_corner, only_cell}
 use Rattle.dirty_spread.specs.Finding.{IsFirstFrom, IsNextIn, at}
 
 pub nowhere : Place
@@ -81,3 +82,33 @@ module _ (cells : List Place) (in_order : AllPairs IsBefore cells) where
           (λ (l : j < i). absurd (omega arith)) o)
           (cases_order i j))
           (cases_lt j i)
+
+  -- the one cell of an area stands at no other place
+  module _ (area : Rectangle) (rectangle : IsRectangle area) (col : area.first_col ≡ area.last_col) (row : area.first_row ≡ area.last_row) where
+    pub alone : (i place : ℕ) → i < length cells → place < length cells → at cells place ≡ corner area → covers area (at cells i) ≡ true → i ≡ place
+    alone i place hi hp here c = one_place i place hi hp (only_cell area (at cells i) col row c ∙ sym here)
+
+    pub one_found : (from place : ℕ) → from ≤ place → slice_get cells place ≡ Some (corner area) → IsNextIn cells area from place
+    one_found from place le is =
+        let here = at_some cells place (corner area) is in
+        record {
+          within = omega (arith, here.0);
+          here = λ less. subst (λ p. covers area p ≡ true) (sym here.1) (covers_corner area rectangle.cols_in_order rectangle.rows_in_order);
+          none = λ i low high. false_from_ne_true (covers area (at cells i)) (λ c. absurd (omega (arith, alone i place (omega (arith, here.0)) here.0 here.1 c)));
+        }
+
+    pub one_behind : (from place : ℕ) → place < from → slice_get cells place ≡ Some (corner area) → IsNextIn cells area from (length cells)
+    one_behind from place less is =
+        let here = at_some cells place (corner area) is in
+        record {
+          within = omega arith;
+          here = λ l. absurd (omega arith);
+          none = λ i low high. false_from_ne_true (covers area (at cells i)) (λ c. absurd (omega (arith, alone i place high here.0 here.1 c)));
+        }
+
+    pub one_absent : (from : ℕ) → (Contains cells (corner area) → ⊥) → IsNextIn cells area from (length cells)
+    one_absent from absent = record {
+      within = omega arith;
+      here = λ l. absurd (omega arith);
+      none = λ i low high. false_from_ne_true (covers area (at cells i)) (λ c. absent (subst (Contains cells) (only_cell area (at cells i) col row c) (at_holds cells i high)));
+    }

@@ -1,13 +1,15 @@
 -- Lists of cells that are kept as runs: one list more, and one cell more in the last.
-use Rattle.std.proofs.Common.{◌≡◌, ℕ, zero, suc, ◌+◌, ◌-◌, ◌<◌, ◌≤◌, List, [], ◌∷◌, ◌++◌, map, length, get_or, take, drop, refl, sym, ap, subst, ◌∙◌, ⊎_elim, append-nil, length-append, length-drop, arith}
+use Rattle.std.proofs.Common.{◌≡◌, append_assoc, ℕ, zero, suc, ◌+◌, ◌-◌, ◌<◌, ◌≤◌, List, [], ◌∷◌, ◌++◌, map, length, get_or, take, drop, refl, sym, ap, subst, ◌∙◌, ⊎_elim, append-nil, length-append, length-drop, arith}
 use Rattle.std.specs.List.{range_with_len, slice_range}
+use Rattle.std.proofs.Math.ListN.{set}
 use Rattle.std.proofs.Math.Seq.{get_or-append_seam}
 use Rattle.std.proofs.lemmas.Bool.{cases_eq, cases_lt}
 use Rattle.std.proofs.lemmas.Grind.{flat_map-append}
-use Rattle.std.proofs.lemmas.List.{drop-append-le, get_or_append_left, get_or_default, get_or_past, take-append-le, take_all}
+use Rattle.std.proofs.lemmas.List.{drop-append-le, get_or_append_left, get_or_default, get_or_past, take-append-le, take_all, take_more, drop_all, set_split}
 use Rattle.std.proofs.lemmas.List.FromFn.{get_or-map-range_with_len, length-map-range_with_len}
 use Rattle.calc_addr.specs.Places.{Place, Rows}
 use Rattle.cell_runs.specs.CellLists.{all_cells, cells_of}
+use Rattle.cell_runs.proofs.Indexed.{cells-joined}
 use Rattle.dirty_spread.specs.WaveKeys.{IsAdded, IsOpened}
 use Rattle.dirty_spread.specs.WaveLists.{AreStarts, lists_of, part}
 
@@ -135,3 +137,97 @@ one_cell s c r = let one : r + 1 - r ≡ 1 = omega arith in ap (λ n. map (λ ro
 pub not_none : {X : Type 0} (xs : List X) → (xs ≡ [] → ⊥) → 0 < length xs
 not_none [] h = absurd (h refl)
 not_none (x ∷ xs) h = omega arith
+
+-- without the last run, the lists begin where they did, if the last one began in front of it
+module _ (front : List Rows) (x : Rows) (starts : List ℕ) (h : AreStarts (front ++ x ∷ []) starts) (k : ℕ) (last : k + 1 ≡ length starts) (begins : get_or starts k 0 ≤ length front) where
+  longer : length (front ++ x ∷ []) ≡ length front + 1
+  longer = length-append front (x ∷ [])
+
+  -- a list that isn't the last ends where the last begins, or in front of it
+  inner_low : (m d : ℕ) → m + d ≡ k → get_or starts m 0 ≤ get_or starts k 0
+  inner_low m zero e = omega (arith, ap (λ i. get_or starts i 0) (to_k m e))
+    where
+      to_k : (m : ℕ) → m + zero ≡ k → m ≡ k
+      to_k m e = omega arith
+  inner_low m (suc d) e =
+      let next : get_or starts m 0 ≤ get_or starts (m + 1) 0 = omega (arith, h.in_turn m (omega arith), get_or_default starts (m + 1) 0 (length (front ++ x ∷ [])) (omega arith)) in
+      omega (arith, inner_low (m + 1) d (omega arith))
+
+  end_low : (m : ℕ) → m < length starts → get_or starts (m + 1) (length front) ≤ length front
+  end_low m within =
+      ⊎_elim (λ (l : m + 1 < length starts). omega (arith, inner_low (m + 1) (k - (m + 1)) (omega arith), get_or_default starts (m + 1) 0 (length front) l))
+      (λ (le : length starts ≤ m + 1). omega (arith, get_or_past starts (m + 1) (length front) le))
+      (cases_lt (m + 1) (length starts))
+
+  pub starts_less : AreStarts front starts
+  starts_less = record {
+    in_turn = λ m within. ⊎_elim
+        (λ (l : m + 1 < length starts). omega (arith, h.in_turn m within, get_or_default starts (m + 1) (length front) (length (front ++ x ∷ [])) l))
+        (λ (le : length starts ≤ m + 1). omega (arith, get_or_past starts (m + 1) (length front) le, ap (λ i. get_or starts i 0) (at_last m within le)))
+        (cases_lt (m + 1) (length starts));
+    within = end_low;
+  }
+    where
+      at_last : (m : ℕ) → m < length starts → length starts ≤ m + 1 → m ≡ k
+      at_last m within le = omega arith
+
+-- the last run is lengthened by a cell
+module _ (front : List Rows) (starts : List ℕ) (h : AreStarts front starts) (x y : Rows) (q : Place) (more : cells_of y ≡ cells_of x ++ q ∷ []) (some : 0 < length starts) where
+  old_at : (k : ℕ) → k < length starts → get_or (lists_of (front ++ x ∷ []) starts) k [] ≡ all_cells (part (front ++ x ∷ []) starts k)
+  old_at k within = list_at (front ++ x ∷ []) starts k within
+
+  new_at : (k : ℕ) → k < length starts → get_or (lists_of (front ++ y ∷ []) starts) k [] ≡ all_cells (part (front ++ y ∷ []) starts k)
+  new_at k within = list_at (front ++ y ∷ []) starts k within
+
+  longer_others : (k : ℕ) → (k ≡ length (lists_of (front ++ x ∷ []) starts) - 1 → ⊥) → get_or (lists_of (front ++ y ∷ []) starts) k [] ≡ get_or (lists_of (front ++ x ∷ []) starts) k []
+  longer_others k ne =
+      ⊎_elim (λ (l : k < length starts).
+      let b = below k l ne in
+      new_at k l ∙ ap all_cells (inner front starts h y k b ∙ sym (inner front starts h x k b)) ∙ sym (old_at k l))
+      (λ (le : length starts ≤ k). list_past (front ++ y ∷ []) starts k le ∙ sym (list_past (front ++ x ∷ []) starts k le))
+      (cases_lt k (length starts))
+    where
+      below : (k : ℕ) → k < length starts → (k ≡ length (lists_of (front ++ x ∷ []) starts) - 1 → ⊥) → k + 1 < length starts
+      below k l ne = ⊎_elim (λ (e : k + 1 ≡ length starts). absurd (ne (omega (arith, lists_size (front ++ x ∷ []) starts)))) (λ (other : k + 1 ≡ length starts → ⊥). omega arith) (cases_eq (k + 1) (length starts))
+
+  longer_here : get_or (lists_of (front ++ y ∷ []) starts) (length (lists_of (front ++ x ∷ []) starts) - 1) [] ≡ get_or (lists_of (front ++ x ∷ []) starts) (length (lists_of (front ++ x ∷ []) starts) - 1) [] ++ q ∷ []
+  longer_here =
+      let k : ℕ = length starts - 1 in
+      let is : length (lists_of (front ++ x ∷ []) starts) - 1 ≡ k = ap (λ n. n - 1) (lists_size (front ++ x ∷ []) starts) in
+      let e : k + 1 ≡ length starts = omega arith in
+      let base : List Place = all_cells (part front starts k) in
+      subst (λ j. get_or (lists_of (front ++ y ∷ []) starts) j [] ≡ get_or (lists_of (front ++ x ∷ []) starts) j [] ++ q ∷ []) (sym is)
+      (new_at k (omega arith) ∙ last_part front starts h y k e ∙ ap (λ cs. base ++ cs) more ∙ sym (append_assoc base (cells_of x) (q ∷ []))
+      ∙ ap (λ cs. cs ++ q ∷ []) (sym (old_at k (omega arith) ∙ last_part front starts h x k e)))
+
+  pub lengthened : IsAdded (lists_of (front ++ x ∷ []) starts) (lists_of (front ++ y ∷ []) starts) (length (lists_of (front ++ x ∷ []) starts) - 1) q
+  lengthened = record {
+    size = lists_size (front ++ y ∷ []) starts ∙ (omega (arith, lists_size (front ++ x ∷ []) starts));
+    here = longer_here;
+    others = longer_others;
+  }
+
+  pub starts_longer : AreStarts (front ++ y ∷ []) starts
+  starts_longer = starts_more front starts h y
+
+-- the last run of the list is lengthened by a cell
+pub added_last : (runs : List Rows) (starts : List ℕ) (x y : Rows) (q : Place) → AreStarts runs starts → 0 < length runs → x ≡ get_or runs (length runs - 1) x → 0 < length starts → get_or starts (length starts - 1) 0 < length runs → cells_of y ≡ cells_of x ++ q ∷ []
+    → IsAdded (lists_of runs starts) (lists_of (set runs (length runs - 1) y) starts) (length (lists_of runs starts) - 1) q
+added_last runs starts x y q h filled is some begins more =
+    let i : ℕ = length runs - 1 in
+    let within : i < length runs = omega arith in
+    let front : List Rows = take i runs in
+    let split : runs ≡ front ++ x ∷ [] = sym (take_all (i + 1) runs (omega arith)) ∙ take_more runs i x within ∙ ap (λ v. take i runs ++ v ∷ []) (sym is) in
+    let none : drop (suc i) runs ≡ [] = drop_all (suc i) runs (omega arith) in
+    let new : set runs i y ≡ front ++ y ∷ [] = set_split runs i y within ∙ ap (λ v. take i runs ++ y ∷ v) none in
+    let size : length runs ≡ length front + 1 = ap (λ (rs : List Rows). length rs) split ∙ length-append front (x ∷ []) in
+    let less : AreStarts front starts = starts_less front x starts (subst (λ rs. AreStarts rs starts) split h) (length starts - 1) (omega arith) (omega arith) in
+    let longer_by : IsAdded (lists_of (front ++ x ∷ []) starts) (lists_of (front ++ y ∷ []) starts) (length (lists_of (front ++ x ∷ []) starts) - 1) q = lengthened front starts less x y q more some in
+    subst (λ rs. IsAdded (lists_of runs starts) (lists_of rs starts) (length (lists_of runs starts) - 1) q) (sym new)
+    (subst (λ rs. IsAdded (lists_of rs starts) (lists_of (front ++ y ∷ []) starts) (length (lists_of rs starts) - 1) q) (sym split) longer_by)
+
+-- a run with the cell below it
+pub cells_below : (x : Rows) (q : Place) → x.first ≤ x.last → x.sheet ≡ q.sheet → x.col ≡ q.col → x.last + 1 ≡ q.row → cells_of (record x { last = q.row }) ≡ cells_of x ++ q ∷ []
+cells_below x q order s c next =
+    cells-joined x (record { sheet = q.sheet; col = q.col; first = q.row; last = q.row }) s c next order (omega arith)
+    ∙ ap (λ cs. cells_of x ++ cs) (one_cell q.sheet q.col q.row)

@@ -56,7 +56,7 @@ between run q rows place low high =
     let col : q.col ≡ run.col = omega (arith, rows.to, rows.from, rows.in_order, rows.col_to, rows.col_from, place.row_to, place.row_from, place.col_to, place.col_from) in
     is_in_lies run q (record { sheet = sheet; col = col; from = omega arith; to = omega arith })
 
-all_pairs_append : {X : Type 0} (R : X → X → Type 0) (xs ys : List X) → AllPairs R xs → AllPairs R ys → ((x y : X) → Contains xs x → Contains ys y → R x y) → AllPairs R (xs ++ ys)
+pub all_pairs_append : {X : Type 0} (R : X → X → Type 0) (xs ys : List X) → AllPairs R xs → AllPairs R ys → ((x y : X) → Contains xs x → Contains ys y → R x y) → AllPairs R (xs ++ ys)
 all_pairs_append R xs ys one two across i j d less within =
     let n : ℕ = length xs in
     let all : length (xs ++ ys) ≡ length xs + length ys = length-append xs ys in
@@ -79,13 +79,13 @@ all_pairs_append R xs ys one two across i j d less within =
     (cases_lt i n)))
     (cases_lt j n)
 
-run_in_order : (run : Rows) → AllPairs IsBefore (cells_of run)
+pub run_in_order : (run : Rows) → AllPairs IsBefore (cells_of run)
 run_in_order run i j d less within =
     let below : j < run.last + 1 - run.first = omega (arith, length-cells run) in
     subst (λ x. IsBefore x (get_or (cells_of run) j d)) (sym (cell_at run i d (omega arith)))
     (subst (λ y. IsBefore (record { sheet = run.sheet; col = run.col; row = run.first + i }) y) (sym (cell_at run j d below)) (row_before run.sheet run.col (run.first + i) (run.first + j) (omega arith)))
 
-place_of_lies : (run : Rows) (q : Place) → IsRows run → Lies run q → IsPlace q
+pub place_of_lies : (run : Rows) (q : Place) → IsRows run → Lies run q → IsPlace q
 place_of_lies run q rows l = record {
   sheet_in = omega (arith, rows.sheet_in, l.sheet);
   col_from = omega (arith, rows.col_from, l.col);

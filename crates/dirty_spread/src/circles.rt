@@ -50,10 +50,11 @@ fn lacks(cells: &CellRuns, cell: Cell) -> bool
     }
 }
 
-/// Whether a cell of the area that isn't one of the list's shows a circle. It takes the logarithm of the
-/// area for each cell that shows one.
+/// Whether a cell of the area that isn't one of the list's shows a circle. It takes the logarithm
+/// of the area for each cell that shows one.
 pub(crate) fn shows_circle<V: Values>(cells: &CellRuns, ready: &V, area: &Area) -> bool
-    ensures yes { result ≡ true → (q : Place) × IsCircleIn cells.now (V.values ready.now) area.now q }
+    ensures yes { result ≡ true →
+        (q : Place) × IsCircleIn cells.now (V.values ready.now) area.now q }
     ensures no { result ≡ false →
         (q : Place) → IsCircleIn cells.now (V.values ready.now) area.now q → ⊥ }
 {

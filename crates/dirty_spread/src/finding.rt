@@ -20,8 +20,8 @@ fn is_before(first: &Cell, second: &Cell) -> bool
     first.row < second.row
 }
 
-/// The place of the first cell of a list that isn't before a cell, or how many there are. It takes the
-/// logarithm of the cells, times that of the runs.
+/// The place of the first cell of a list that isn't before a cell, or how many there are. It takes
+/// the logarithm of the cells, times that of the runs.
 fn first_from(cells: &CellRuns, cell: &Cell) -> usize
     requires { AllPairs IsBefore cells.now }
     ensures { IsFirstFrom cells.now cell.now result }
@@ -69,8 +69,34 @@ fn skip(area: &Area, cell: &Cell) -> Option<Cell>
     None
 }
 
+/// The same for an area of one cell, in the logarithm of the runs.
+fn one_from(cells: &CellRuns, area: &Area, from: usize) -> usize
+    requires in_order { AllPairs IsBefore cells.now }
+    requires within { from ≤ length cells.now }
+    requires column { area.now.first_col ≡ area.now.last_col }
+    requires row { area.now.first_row ≡ area.now.last_row }
+    ensures from { from ≤ result }
+    ensures next { IsNextIn cells.now area.now from result }
+{
+    let cell = Cell {
+        sheet: area.sheet,
+        col: area.first_col,
+        row: area.first_row,
+    };
+    match cells.place(cell) {
+        Some(place) => {
+            if place < from {
+                return cells.len();
+            }
+            place
+        }
+        None => cells.len(),
+    }
+}
+
 /// The place of the first cell of an area from a place of the list on, or how many cells there are.
-pub(crate) fn next_in(cells: &CellRuns, area: &Area, from: usize) -> usize
+/// It skips what lies between two columns of the area by a search.
+fn next_of(cells: &CellRuns, area: &Area, from: usize) -> usize
     requires in_order { AllPairs IsBefore cells.now }
     requires within { from ≤ length cells.now }
     ensures from { from ≤ result }
@@ -87,4 +113,17 @@ pub(crate) fn next_in(cells: &CellRuns, area: &Area, from: usize) -> usize
         }
     }
     at
+}
+
+/// The place of the first cell of an area from a place of the list on, or how many cells there are.
+pub(crate) fn next_in(cells: &CellRuns, area: &Area, from: usize) -> usize
+    requires in_order { AllPairs IsBefore cells.now }
+    requires within { from ≤ length cells.now }
+    ensures from { from ≤ result }
+    ensures next { IsNextIn cells.now area.now from result }
+{
+    if area.first_row == area.last_row && area.first_col == area.last_col {
+        return one_from(cells, area, from);
+    }
+    next_of(cells, area, from)
 }

@@ -101,8 +101,8 @@ fn read_areas<H: Dependents>(
     }
 }
 
-/// Looks at what a cell reads that is being looked at, the last of a path: it gets its wave, or goes on to
-/// a cell that has none yet. Where that one leads to it, all on the path are in no wave.
+/// Looks at what a cell reads that is being looked at, the last of a path: it gets its wave, or
+/// goes on to a cell that has none yet. Where that one leads to it, all on the path are in no wave.
 fn visit<V: Values, H: Dependents>(
     frame: &Frame,
     stale: &CellRuns,
@@ -174,8 +174,9 @@ fn level_from<V: Values, H: Dependents>(
     Ok(())
 }
 
-/// Finds the waves of all stale cells, of which none was looked at. Linear in what they read by areas of
-/// few cells; a stretch of stale cells of an area is gone over once by each cell that reads it.
+/// Finds the waves of all stale cells, of which none was looked at. Linear in what they read by
+/// areas of few cells; a stretch of stale cells of an area is gone over once by each cell that
+/// reads it.
 pub(crate) fn find_levels<V: Values, H: Dependents>(
     alloc: Global,
     stale: &CellRuns,

@@ -17,8 +17,8 @@ pub(crate) const CIRCULAR: usize = 2;
 /// The least level of a cell that has a wave.
 pub(crate) const FIRST: usize = 3;
 
-/// How far was looked: at the stale cells of the areas before one, and at those of that one before a
-/// place. The greatest of their levels is kept, or 2.
+/// How far was looked: at the stale cells of the areas before one, and at those of that one before
+/// a place. The greatest of their levels is kept, or 2.
 #[derive(Clone, Copy)]
 pub(crate) struct Cursor {
     pub area: usize,
@@ -44,8 +44,8 @@ pub(crate) enum Seen {
     Circle,
 }
 
-/// Goes over the cells of an area from a place on while they have waves, and gives the place of the first
-/// that hasn't, or how many cells there are, and the greatest level.
+/// Goes over the cells of an area from a place on while they have waves, and gives the place of the
+/// first that hasn't, or how many cells there are, and the greatest level.
 fn scan(
     cells: &CellRuns,
     levels: &[usize],

@@ -7,8 +7,8 @@ ghost use Rattle.dirty_spread.specs.Marking.{IsFormulaIn, IsFormulaInAny, IsFron
 use calc_addr::{Area, Cell, NoMemory, Run};
 use cell_runs::CellRuns;
 
-/// Marks places from one on, up to the first that is marked already, or up to an end, and gives the place
-/// behind those that it marked.
+/// Marks places from one on, up to the first that is marked already, or up to an end, and gives the
+/// place behind those that it marked.
 fn mark_front(marks: &mut [bool], from: usize, end: usize) -> usize
     requires order { from ≤ end }
     requires within { end ≤ length marks.old }
@@ -29,7 +29,10 @@ fn mark_front(marks: &mut [bool], from: usize, end: usize) -> usize
 fn part_of(run: &Run, first: usize, last: usize) -> Run
     requires order { first ≤ last }
     requires within { run.now.first + last ≤ run.now.last }
-    ensures { result ≡ record run.now { first = run.now.first + first; last = run.now.first + last } }
+    ensures { result ≡ record run.now {
+      first = run.now.first + first;
+      last = run.now.first + last;
+    } }
 {
     Run {
         sheet: run.sheet,
@@ -39,7 +42,8 @@ fn part_of(run: &Run, first: usize, last: usize) -> Run
     }
 }
 
-/// Marks the places of a run's rows from a place on, and appends runs of the rows that weren't marked.
+/// Marks the places of a run's rows from a place on, and appends runs of the rows that weren't
+/// marked.
 fn mark_rows(
     run: &Run,
     from: usize,
@@ -140,8 +144,8 @@ fn mark_cell(
     }
 }
 
-/// Marks the formula cells of an area, and appends runs of those that weren't marked. Linear in the runs
-/// of formula cells, or logarithmic for an area of one cell.
+/// Marks the formula cells of an area, and appends runs of those that weren't marked. Linear in the
+/// runs of formula cells, or logarithmic for an area of one cell.
 fn mark_area(
     formulas: &CellRuns,
     area: &Area,

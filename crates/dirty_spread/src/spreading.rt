@@ -24,8 +24,8 @@ fn area_of(run: Run) -> Area
     }
 }
 
-/// Marks the formula cells that read a cell of an area, and maybe others that reach one, and appends runs
-/// of those that weren't marked.
+/// Marks the formula cells that read a cell of an area, and maybe others that reach one, and
+/// appends runs of those that weren't marked.
 fn follow<H: Dependents>(
     area: Area,
     formulas: &CellRuns,
@@ -72,8 +72,8 @@ fn follow_areas<H: Dependents>(
     Ok(())
 }
 
-/// Runs of the stale cells, each cell in one, found in the order in which they reach one another. Nothing
-/// is marked before.
+/// Runs of the stale cells, each cell in one, found in the order in which they reach one another.
+/// Nothing is marked before.
 fn search<H: Dependents>(
     alloc: Global,
     touched: &[Area],
@@ -104,8 +104,9 @@ fn search<H: Dependents>(
 /// The formula cells that lie in a touched area or reach one by reading, each once, in the order of
 /// cells. `workers` is how many threads may search; so far the calling one searches alone.
 ///
-/// Each stale cell is asked for its readers once, in whole runs where they were found so. Beside that it
-/// is linear in the runs of stale cells, with a sort of them, and takes a byte a formula cell.
+/// Each stale cell is asked for its readers once, in whole runs where they were found so. Beside
+/// that it is linear in the runs of stale cells, with a sort of them, and takes a byte a formula
+/// cell.
 pub fn spread<H: Dependents>(
     alloc: Global,
     workers: u32,

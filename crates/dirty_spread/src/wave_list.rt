@@ -1,4 +1,4 @@
-ghost use Rattle.std.specs.Prelude.{◌≡◌, ◌≢◌, ◌≤◌, ◌<◌, ◌+◌, ◌-◌, [], length, slice_index_or, OnOk};
+ghost use Rattle.std.specs.Prelude.{◌≡◌, ◌≢◌, ◌≤◌, ◌<◌, ◌+◌, ◌-◌, ◌↔◌, [], false, length, slice_index_or, IsTrue, OnOk};
 ghost use Rattle.std.specs.List.{slice_range};
 ghost use Rattle.dirty_spread.specs.WaveKeys.{IsAdded, IsOpened};
 ghost use Rattle.dirty_spread.specs.WaveLists.{AreStarts, part};
@@ -26,6 +26,14 @@ impl Model for WaveList {
     ghost view = { λ w. lists_of w.runs.items w.starts.items };
 
     ghost invariant = { λ w. AreStarts w.runs.items w.starts.items };
+}
+
+/// Whether the cell lies right below a run.
+fn goes_on(run: Run, cell: Cell) -> bool
+    ensures { IsTrue result ↔ (run.sheet ≡ cell.sheet × run.col ≡ cell.col
+        × run.last + 1 ≡ cell.row) }
+{
+    run.sheet == cell.sheet && run.col == cell.col && run.last + 1 == cell.row
 }
 
 /// Where a list ends that begins at a place of these, of so many runs.
@@ -92,8 +100,44 @@ impl WaveList {
         Ok(())
     }
 
+    /// Lengthens the last run by a cell that goes on with it, where it is one of the last list, or
+    /// answers false.
+    fn lengthen(&mut self, cell: Cell) -> bool
+        requires { self.old ≢ [] }
+        ensures yes { IsTrue result → IsAdded self.old self.new (length self.old - 1) cell }
+        ensures no { result ≡ false → self.new ≡ self.old }
+    {
+        let count = self.runs.len();
+        let lists = self.starts.len();
+        if lists == 0 || count <= self.starts[lists - 1] {
+            return false;
+        }
+        let last = self.runs[count - 1];
+        if !goes_on(last, cell) {
+            return false;
+        }
+        self.runs[count - 1] = Run {
+            sheet: last.sheet,
+            col: last.col,
+            first: last.first,
+            last: cell.row,
+        };
+        true
+    }
+
     /// Appends a cell to the last list.
     pub(crate) fn push(&mut self, cell: Cell) -> Result<(), NoMemory>
+        requires { self.old ≢ [] }
+        ensures { OnOk result (IsAdded self.old self.new (length self.old - 1) cell) }
+    {
+        if self.lengthen(cell) {
+            return Ok(());
+        }
+        self.append(cell)
+    }
+
+    /// Appends a cell to the last list as a run of its own.
+    fn append(&mut self, cell: Cell) -> Result<(), NoMemory>
         requires { self.old ≢ [] }
         ensures { OnOk result (IsAdded self.old self.new (length self.old - 1) cell) }
     {

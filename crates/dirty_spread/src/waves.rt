@@ -137,12 +137,12 @@ fn order_with<V: Values, H: Dependents>(
     Ok(Waves { waves, circular })
 }
 
-/// The waves of stale cells. Each one that reads no circle stands in the first wave behind those of all
-/// stale cells that it reads; what the other cells show says which of them are circular.
+/// The waves of stale cells. Each one that reads no circle stands in the first wave behind those of
+/// all stale cells that it reads; what the other cells show says which of them are circular.
 ///
-/// Each stale cell is asked what it reads once, and once more for each cell that it is first to go on to.
-/// The stale cells of an area are gone over once by each cell that reads it. Sorts the stale cells by
-/// their waves.
+/// Each stale cell is asked what it reads once, and once more for each cell that it is first to go
+/// on to. The stale cells of an area are gone over once by each cell that reads it. Sorts the stale
+/// cells by their waves.
 pub fn order<V: Values, H: Dependents>(
     alloc: Global,
     stale: &CellRuns,

@@ -1,7 +1,7 @@
 use Rattle.std.proofs.Common.{◌≡◌, ℕ, ◌-◌, ◌<◌, ◌≤◌, false, length}
 use Rattle.calc_addr.specs.Places.{covers}
 use Rattle.dirty_spread.specs.Finding.{at}
-use Rattle.dirty_spread.proofs.finding.next_in.Given as goal
+use Rattle.dirty_spread.proofs.finding.next_of.Given as goal
 
 abbrev pub invariant-loop-cell : goal.invariant-loop-cell
 invariant-loop-cell l = record {

@@ -1,7 +1,7 @@
 use Rattle.std.proofs.Common.{◌<◌, sym, subst, ◌∙◌, arith}
 use Rattle.dirty_spread.specs.Finding.{IsNextIn}
 use Rattle.dirty_spread.proofs.Found.{at_none, at_some, skipped_all, skipped_none, skipped_on}
-use Rattle.dirty_spread.proofs.finding.next_in.Goals as goal
+use Rattle.dirty_spread.proofs.finding.next_of.Goals as goal
 
 pub loop-cell-smaller : goal.loop-cell-smaller
 loop-cell-smaller c =

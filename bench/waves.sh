@@ -1,0 +1,41 @@
+#!/usr/bin/env bash
+# Times dirty_spread over a hub of listener_hub: which formulas are stale once an area was touched, and their waves.
+#
+# bench/waves/program has the program: its files end in `.rattle`, since an `.rt` or `.antt` file belongs to a crate of
+# crates.txt, and become those of a crate in a repository of their own beside copies of the crates that it stands on.
+#
+# The books: the generated book of 100,000 rows, of which `A1`, a cell in the midst of A, and all of A are touched; and
+# 50,000 formulas of one cell each, two rows apart, that all read `A1`, which is touched.
+#
+# Prints a line a call: its name, how often it was made, the nanoseconds of the fastest, and how many cells are stale or
+# how many waves there are. It takes some minutes, most of them for proofs from nothing.
+set -euo pipefail
+
+top="$(cd "$(dirname "$0")/.." && pwd)"
+source="$top/bench/waves"
+work="$(mktemp -d)"
+trap 'rm -rf "$work"' EXIT
+
+cp "$top/HANDLES" "$work/"
+for crate in byte_cuts calc_num calc_addr calc_model ears area_listeners run_unions registration_slab listener_hub \
+    cell_runs run_tables value_column dirty_spread; do
+    mkdir -p "$work/crates/$crate"
+    for folder in src specs proofs; do
+        if [ -d "$top/crates/$crate/$folder" ]; then cp -r "$top/crates/$crate/$folder" "$work/crates/$crate/"; fi
+    done
+    grep "^$crate:" "$top/crates.txt" >>"$work/crates.txt"
+done
+(cd "$source/program" && find . -name '*.rattle') | while read -r file; do
+    case "$file" in
+        *.antt.rattle) to="$work/crates/spreads/${file%.rattle}" ;;
+        *) to="$work/crates/spreads/src/$(basename "$file" .rattle).rt" ;;
+    esac
+    mkdir -p "$(dirname "$to")"
+    cp "$source/program/$file" "$to"
+done
+printf 'spreads: dirty_spread value_column listener_hub registration_slab ears cell_runs calc_model calc_addr\n' \
+    >>"$work/crates.txt"
+(cd "$work/crates/spreads" && rt run --jobs 1 2>"$work/log") || {
+    cat "$work/log" >&2
+    exit 1
+}
