@@ -1,5 +1,3 @@
--- rows that hold nothing
-pub mod EmptyRows
 -- looking a key up
 pub mod Lookups
 -- books of cells without names

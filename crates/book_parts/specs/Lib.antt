@@ -1,4 +1,2 @@
 pub mod GeneratedColumns
-pub mod ResultMap
 pub mod Runs
-pub mod ShownCells

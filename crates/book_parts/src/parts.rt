@@ -141,7 +141,7 @@ impl BookParts {
 
     /// How many rows from a cell on, down to that row, hold nothing before the first that holds something. It
     /// takes the logarithm of the blocks.
-    pub(crate) fn empty_rows(&self, start: Cell, last_row: u32) -> u32
+    pub fn empty_rows(&self, start: Cell, last_row: u32) -> u32
         requires from { start.row ≤ last_row }
         requires to { last_row ≤ LAST_ROW }
         ensures most { result ≤ last_row + 1 - start.row }

@@ -19,4 +19,6 @@ pub mod Spare
 pub mod Starts
 pub mod Tabs
 pub mod Unmoved
+-- columns that were never used
+mod Unused
 pub mod Written

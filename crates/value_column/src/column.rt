@@ -1,4 +1,5 @@
 ghost use Rattle.std.specs.Prelude.{◌≡◌, ◌≢◌, ◌≤◌, ◌<◌, ℕ, ◌+◌, ◌-◌, length, map, pos, take, drop, Some, IfOk, OnOk, OnErr, IsOk, slice_get, slice_index_or, slice_set, vec_len};
+ghost use Rattle.calc_addr.specs.declared.cell.TheConstants.{LAST_ROW};
 ghost use Rattle.run_tables.specs.Rows.{AreRows, IsRowEdit, rows_erased, rows_inserted, rows_set};
 ghost use Rattle.calc_model.specs.UsedCells.{values_of};
 ghost use Rattle.calc_model.specs.ValueTexts.{lent};
@@ -64,6 +65,7 @@ impl ValueColumn {
     pub fn set(&mut self, row: u32, value: Value) -> Result<(), NoMemory>
         requires { AreRows row row }
         ensures ok { OnOk result (self.new.values ≡ slice_set self.old.values (row - 1) value) }
+        ensures rows { length self.old.values ≡ LAST_ROW }
         ensures err { OnErr result (self.new.values ≡ self.old.values) }
         ensures reserved { 1 ≤ self.old.spare → IsOk result }
         ensures spare { OnOk result (self.old.spare ≤ self.new.spare + 1) }
@@ -100,6 +102,7 @@ impl ValueColumn {
         requires { AreRows first last }
         ensures ok { OnOk result (self.new.values
             ≡ rows_set (first - 1) (last + 1 - first) value.Blank self.old.values) }
+        ensures rows { length self.old.values ≡ LAST_ROW }
         ensures err { OnErr result (self.new.values ≡ self.old.values) }
         ensures reserved { 1 ≤ self.old.spare → IsOk result }
         ensures spare { OnOk result (self.old.spare ≤ self.new.spare + 1) }

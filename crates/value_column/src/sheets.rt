@@ -1,7 +1,7 @@
 ghost use Rattle.std.specs.Option.{option_copied};
 ghost use Rattle.std.specs.Prelude.{◌≡◌, [], ◌≢◌, ℕ, ◌≤◌, ◌<◌, ◌+◌, ◌-◌, ◌^◌, length, map, OnOk, OnErr, IsOk, None, slice_index_or, slice_set, vec_len};
 ghost use Rattle.run_tables.specs.Rows.{AreRows, IsRowEdit, rows_erased, rows_inserted, rows_set};
-ghost use Rattle.calc_addr.specs.declared.cell.TheConstants.{LAST_COL, LAST_SHEET};
+ghost use Rattle.calc_addr.specs.declared.cell.TheConstants.{LAST_COL, LAST_ROW, LAST_SHEET};
 ghost use Rattle.calc_model.specs.declared.value.Value.TheVariants as value;
 ghost use Rattle.value_column.specs.ValueRows.{IsRun, run_set};
 ghost use Rattle.value_column.specs.Sheets.{IsColumn, IsEdited, IsSet, ShowsSame, column_in, column_place, shown_in, spare_in};
@@ -70,6 +70,7 @@ fn set_row(
     requires row { AreRows row row }
     ensures ok { OnOk result (IsSet columns.old.items columns.new.items place
         (slice_set (shown_in columns.old.items place) (row - 1) value)) }
+    ensures rows { OnOk result (length (shown_in columns.old.items place) ≡ LAST_ROW) }
     ensures err { OnErr result (ShowsSame columns.old.items columns.new.items) }
     ensures reserved { 1 ≤ spare_in columns.old.items place → IsOk result }
     ensures spare { OnOk result (spare_in columns.old.items place
@@ -185,6 +186,8 @@ impl ValueSheets {
         ensures ok { OnOk result (IsSet self.old self.new (column_place cell.sheet cell.col)
             (slice_set (shown_in self.old (column_place cell.sheet cell.col))
             (cell.row - 1) value)) }
+        ensures rows { OnOk result
+            (length (shown_in self.old (column_place cell.sheet cell.col)) ≡ LAST_ROW) }
         ensures err { OnErr result (ShowsSame self.old self.new) }
         ensures reserved { 1 ≤ spare_in self.old (column_place cell.sheet cell.col)
             → IsOk result }
@@ -227,6 +230,7 @@ impl ValueSheets {
     pub fn clear(&mut self, run: Run) -> Result<(), NoMemory>
         ensures ok { OnOk result (IsEdited self.old self.new (column_place run.sheet run.col)
             (λ s. rows_set (run.first - 1) (run.last + 1 - run.first) value.Blank s)) }
+        ensures rows { length (shown_in self.old (column_place run.sheet run.col)) ≡ LAST_ROW }
         ensures err { OnErr result (ShowsSame self.old self.new) }
         ensures reserved { 1 ≤ spare_in self.old (column_place run.sheet run.col)
             → IsOk result }

@@ -1,4 +1,5 @@
-use Rattle.std.proofs.Common.{◌≡◌, ◌+◌, ◌-◌, ap, ◌∙◌, arith}
+use Rattle.std.proofs.Common.{◌≡◌, ◌+◌, ◌-◌, ap, sym, ◌∙◌, length, arith}
+use Rattle.std.proofs.lemmas.List.FromFn.{length-map-range_with_len}
 use Rattle.calc_addr.specs.declared.cell.TheConstants.{LAST_ROW}
 use Rattle.calc_model.specs.declared.value.Value.TheVariants as value
 use Rattle.run_tables.specs.Rows.{rows_set}
@@ -13,3 +14,7 @@ returns-clause-ok c =
     tab-cleared value.Blank LAST_ROW (value_at c.self.inside.lanes) (value_at c.clear.new.self) (c.args.first - 1) c.args.last (omega (arith, c.requires.from, c.requires.in_order)) c.requires.to c.clear.ensures.rows
     ∙ ap (λ n. rows_set (c.args.first - 1) n value.Blank (column_of c.self.inside.lanes)) rows
     ∙ ap (λ v. rows_set (c.args.first - 1) (c.args.last + 1 - c.args.first) value.Blank v.values) c.self.view_is
+
+pub returns-clause-rows : goal.returns-clause-rows
+unfolding column_of
+returns-clause-rows c = ap (λ v. length v.values) (sym c.self.view_is) ∙ length-map-range_with_len (value_at c.self.inside.lanes) 0 LAST_ROW

@@ -1,10 +1,10 @@
 use Rattle.std.proofs.Common.{◌+◌, ap, arith}
 use Rattle.calc_addr.specs.Places.{Rows}
 use Rattle.calc_model.specs.Results.{shown_content}
-use Rattle.book_parts.specs.ResultMap.{results_of}
-use Rattle.book_parts.specs.ShownCells.{shown_values}
-use Rattle.book_parts.proofs.EmptyRows.{at_row, blank_front}
-use Rattle.book_parts.proofs.values.ShownCellsValues.piece.Goals as goal
+use Rattle.formula_results.specs.Results.{results_of}
+use Rattle.formula_results.specs.ShownCells.{shown_values}
+use Rattle.formula_results.proofs.EmptyRows.{at_row, blank_front}
+use Rattle.formula_results.proofs.values.ShownCellsValues.piece.Goals as goal
 
 pub returns-else-count-eq0 : goal.returns-else-count-eq0
 returns-else-count-eq0 c =

@@ -2,17 +2,17 @@ ghost use Rattle.std.specs.Prelude.{◌≡◌, ◌++◌, OnOk, OnErr};
 ghost use Rattle.calc_model.specs.Results.{shown_by};
 ghost use Rattle.calc_model.specs.Scalars.{number_of};
 ghost use Rattle.calc_model.specs.ValueTexts.{lent, text_of};
-ghost use Rattle.book_parts.specs.ResultMap.{results_of};
+ghost use Rattle.formula_results.specs.Results.{results_of};
 
-use crate::parts::BookParts;
-use crate::results::ResultMap;
+use crate::results::FormulaResults;
 use block_column::SlotRef;
+use book_parts::BookParts;
 use calc_addr::{Cell, NoMemory};
 use calc_model::{Fault, Seen, Text, show};
 use calc_num::Num;
 
 /// What the cell shows by these results; a formula that has none counts as circular.
-pub fn shown<'a>(cells: &'a BookParts, results: &'a ResultMap, cell: Cell) -> Seen<'a>
+pub fn shown<'a>(cells: &'a BookParts, results: &'a FormulaResults, cell: Cell) -> Seen<'a>
     ensures { lent result ≡ shown_by cells.now (results_of results.now) cell }
 {
     match cells.look(cell) {
@@ -22,7 +22,7 @@ pub fn shown<'a>(cells: &'a BookParts, results: &'a ResultMap, cell: Cell) -> Se
         SlotRef::Bad(fault) => Seen::Bad(fault),
         SlotRef::Raw(_) => Seen::Bad(Fault::Syntax),
         SlotRef::Formula(_) => match results.get(cell) {
-            Some(value) => value.seen(),
+            Some(seen) => seen,
             None => Seen::Bad(Fault::Circular),
         },
     }
@@ -30,7 +30,7 @@ pub fn shown<'a>(cells: &'a BookParts, results: &'a ResultMap, cell: Cell) -> Se
 
 /// The number that the cell shows by these results: blank is 0, a text is `BadValue`, and an error is
 /// itself.
-pub fn number_shown(cells: &BookParts, results: &ResultMap, cell: Cell) -> Result<Num, Fault>
+pub fn number_shown(cells: &BookParts, results: &FormulaResults, cell: Cell) -> Result<Num, Fault>
     ensures { result ≡ number_of (shown_by cells.now (results_of results.now) cell) }
 {
     match shown(cells, results, cell) {
@@ -48,7 +48,7 @@ pub fn number_shown(cells: &BookParts, results: &ResultMap, cell: Cell) -> Resul
 /// as before.
 pub fn show_cell(
     cells: &BookParts,
-    results: &ResultMap,
+    results: &FormulaResults,
     cell: Cell,
     out: &mut Vec<u8>,
 ) -> Result<(), NoMemory>

@@ -1,11 +1,11 @@
 ghost use Rattle.std.specs.Prelude.{◌≡◌};
 ghost use Rattle.calc_model.specs.Results.{shown_by};
 ghost use Rattle.calc_model.specs.UsedCells.{is_circle, is_past, is_used};
-ghost use Rattle.book_parts.specs.ResultMap.{results_of};
+ghost use Rattle.formula_results.specs.Results.{results_of};
 
-use crate::parts::BookParts;
-use crate::results::ResultMap;
+use crate::results::FormulaResults;
 use crate::show::shown;
+use book_parts::BookParts;
 use calc_addr::{Area, Cell};
 use calc_model::{Fault, Piece, Seen, Values};
 
@@ -13,13 +13,13 @@ use calc_model::{Fault, Piece, Seen, Values};
 #[derive(Clone, Copy)]
 pub struct ShownCells<'a> {
     cells: &'a BookParts,
-    results: &'a ResultMap,
+    results: &'a FormulaResults,
 }
 
 impl<'a> ShownCells<'a> {
-    ghost use Rattle.book_parts.specs.ShownCells.{shown_values};
+    ghost use Rattle.formula_results.specs.ShownCells.{shown_values};
 
-    pub fn of(cells: &'a BookParts, results: &'a ResultMap) -> ShownCells<'a>
+    pub fn of(cells: &'a BookParts, results: &'a FormulaResults) -> ShownCells<'a>
         ensures { shown_values result ≡ shown_by cells.entry.now (results_of results.entry.now) }
     {
         ShownCells { cells, results }
@@ -59,7 +59,7 @@ fn is_past(after: &Option<Cell>, cell: Cell) -> bool
 }
 
 impl Values for ShownCells<'_> {
-    ghost use Rattle.book_parts.specs.ShownCells.{shown_values};
+    ghost use Rattle.formula_results.specs.ShownCells.{shown_values};
 
     ghost values = { shown_values };
 

@@ -2,8 +2,8 @@ use Rattle.std.proofs.Common.{◌≡◌, ◌&&◌}
 use Rattle.std.specs.List.{filter}
 use Rattle.calc_addr.specs.Places.{Place, places}
 use Rattle.calc_model.specs.UsedCells.{is_past, is_used}
-use Rattle.book_parts.specs.ShownCells.{shown_values}
-use Rattle.book_parts.proofs.values.ShownCellsValues.next_used.Given as goal
+use Rattle.formula_results.specs.ShownCells.{shown_values}
+use Rattle.formula_results.proofs.values.ShownCellsValues.next_used.Given as goal
 
 -- none of the cells so far is one that is looked for
 abbrev pub invariant-loop-cell : goal.invariant-loop-cell

@@ -1,0 +1,4 @@
+-- rows that hold nothing
+mod EmptyRows
+-- stored values by cell
+mod StoredValues
