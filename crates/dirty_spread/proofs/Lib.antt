@@ -1,4 +1,4 @@
--- Beside: which cells are in a list, and which beside show circles.
+-- Beside: which cells are in a list.
 -- Cells: the cells of runs, as a list and as a test.
 -- Closings: levels of cells that are in no wave.
 -- Dones: when cells are done.
@@ -11,6 +11,7 @@
 -- Looks: areas looked at, one more.
 -- Orders: levels of stale cells, one step more.
 -- PartLists: lists of cells that are kept as runs.
+-- Passed: circular cells of an area, one more.
 -- Reading: which cells are formula cells, and which are stale, by what they read.
 -- Scans: levels of the cells of an area, one cell more.
 -- SpreadExamples: worked examples of stale cells.
@@ -31,6 +32,7 @@ pub mod Listing
 pub mod Looks
 pub mod Orders
 pub mod PartLists
+pub mod Passed
 pub mod Reading
 pub mod Scans
 mod SpreadExamples

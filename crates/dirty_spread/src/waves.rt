@@ -11,7 +11,7 @@ use crate::leveling::find_levels;
 use crate::look::{CIRCULAR, FIRST};
 use crate::wave_list::WaveList;
 use calc_addr::{NoMemory, Run};
-use calc_model::{Dependents, Values};
+use calc_model::Dependents;
 use cell_runs::CellRuns;
 use std::alloc::Global;
 
@@ -115,47 +115,50 @@ pub struct Waves {
 }
 
 /// The waves of stale cells, none of which was looked at, by their levels.
-fn order_with<V: Values, H: Dependents>(
+fn order_with<H: Dependents>(
     alloc: Global,
     stale: &CellRuns,
-    ready: &V,
+    circles: &CellRuns,
     hub: &H,
     levels: &mut [usize],
 ) -> Result<Waves, NoMemory>
     requires in_order { AllPairs IsBefore stale.now }
+    requires circles { AllPairs IsBefore circles.now }
     requires ready { H.ready hub.now ≡ true }
     requires size { length levels.old ≡ length stale.now }
     requires new { (i : ℕ) → level levels.old i ≡ 0 }
     ensures waves { IfOk result (λ w. AreWaves
-        (problem_of (H.areas hub.now) stale.now (V.values ready.now)) w.waves) }
+        (problem_of (H.areas hub.now) stale.now circles.now) w.waves) }
     ensures circular { IfOk result (λ w. AreAll
-        (IsInNone (problem_of (H.areas hub.now) stale.now (V.values ready.now))) w.circular) }
+        (IsInNone (problem_of (H.areas hub.now) stale.now circles.now)) w.circular) }
 {
-    find_levels(alloc, stale, ready, hub, levels)?;
+    find_levels(alloc, stale, circles, hub, levels)?;
     let waves = lists(alloc, stale, levels)?;
     let circular = left_over(alloc, stale, levels)?;
     Ok(Waves { waves, circular })
 }
 
-/// The waves of stale cells. Each one that reads no circle stands in the first wave behind those of
-/// all stale cells that it reads; what the other cells show says which of them are circular.
+/// The waves of stale cells. Each one that reaches no circle stands in the first wave behind those
+/// of all stale cells that it reads. `circles` has the circular cells beside the stale ones, and may
+/// have stale ones too, of which it says nothing.
 ///
 /// Each stale cell is asked what it reads once, and once more for each cell that it is first to go
 /// on to. The stale cells of an area are gone over once by each cell that reads it. Sorts the stale
 /// cells by their waves.
-pub fn order<V: Values, H: Dependents>(
+pub fn order<H: Dependents>(
     alloc: Global,
     stale: &CellRuns,
-    ready: &V,
+    circles: &CellRuns,
     hub: &H,
 ) -> Result<Waves, NoMemory>
     requires in_order { AllPairs IsBefore stale.now }
+    requires circles { AllPairs IsBefore circles.now }
     requires ready { H.ready hub.now ≡ true }
     ensures waves { IfOk result (λ w. AreWaves
-        (problem_of (H.areas hub.now) stale.now (V.values ready.now)) w.waves) }
+        (problem_of (H.areas hub.now) stale.now circles.now) w.waves) }
     ensures circular { IfOk result (λ w. AreAll
-        (IsInNone (problem_of (H.areas hub.now) stale.now (V.values ready.now))) w.circular) }
+        (IsInNone (problem_of (H.areas hub.now) stale.now circles.now)) w.circular) }
 {
     let mut levels = vec![in alloc; 0; stale.len()]?;
-    order_with(alloc, stale, ready, hub, &mut levels)
+    order_with(alloc, stale, circles, hub, &mut levels)
 }
