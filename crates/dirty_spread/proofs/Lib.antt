@@ -16,6 +16,7 @@
 -- Scans: levels of the cells of an area, one cell more.
 -- SpreadExamples: worked examples of stale cells.
 -- Spreads: what a search of stale cells has found.
+-- StaleLaws: which cells of a book are stale, by what its formulas read.
 -- Stepping: marks one after the other.
 -- Sweeps: one run more of those whose cells stand in a list.
 -- WaveExamples: worked examples of waves.
@@ -37,6 +38,7 @@ pub mod Reading
 pub mod Scans
 mod SpreadExamples
 pub mod Spreads
+pub mod StaleLaws
 pub mod Stepping
 pub mod Sweeps
 mod WaveExamples

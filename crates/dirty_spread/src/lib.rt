@@ -12,5 +12,6 @@ mod wave_list;
 mod waves;
 
 pub use spreading::spread;
+pub use union::union_of_runs;
 pub use wave_list::WaveList;
 pub use waves::{Waves, order};
