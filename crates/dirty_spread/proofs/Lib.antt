@@ -2,11 +2,10 @@
 -- Cells: the cells of runs, as a list and as a test.
 -- Closings: levels of cells that are in no wave.
 -- Dones: when cells are done.
--- Emits: cells that stand in their waves, one cell more.
 -- Endings: what levels say of waves in the end.
 -- Found: cells at places of a list in order.
 -- Fronts: marks of the first rows of a run.
--- KeyLists: numbers of the cells that have waves.
+-- Leveled: lists of cells by their levels, one place more.
 -- Listing: the places of a run's cells in a list in order.
 -- Looks: areas looked at, one more.
 -- Orders: levels of stale cells, one step more.
@@ -24,11 +23,10 @@ pub mod Beside
 pub mod Cells
 pub mod Closings
 pub mod Dones
-pub mod Emits
 pub mod Endings
 pub mod Found
 pub mod Fronts
-pub mod KeyLists
+pub mod Leveled
 pub mod Listing
 pub mod Looks
 pub mod Orders

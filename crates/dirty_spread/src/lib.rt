@@ -3,6 +3,7 @@
 
 mod circles;
 mod finding;
+mod level_lists;
 mod leveling;
 mod look;
 mod marking;
