@@ -18,7 +18,7 @@ trap 'rm -rf "$work"' EXIT
 
 cp "$top/HANDLES" "$work/"
 for crate in byte_cuts calc_num calc_addr calc_model ears area_listeners run_unions registration_slab listener_hub \
-    cell_runs run_tables value_column dirty_spread; do
+    cell_runs dirty_spread; do
     mkdir -p "$work/crates/$crate"
     for folder in src specs proofs; do
         if [ -d "$top/crates/$crate/$folder" ]; then cp -r "$top/crates/$crate/$folder" "$work/crates/$crate/"; fi
@@ -33,7 +33,7 @@ done
     mkdir -p "$(dirname "$to")"
     cp "$source/program/$file" "$to"
 done
-printf 'spreads: dirty_spread value_column listener_hub registration_slab ears cell_runs calc_model calc_addr\n' \
+printf 'spreads: dirty_spread listener_hub registration_slab ears cell_runs calc_model calc_addr\n' \
     >>"$work/crates.txt"
 (cd "$work/crates/spreads" && rt run --jobs 1 2>"$work/log") || {
     cat "$work/log" >&2

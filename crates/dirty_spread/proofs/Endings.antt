@@ -1,47 +1,19 @@
 -- What levels say of waves in the end.
-use Rattle.std.proofs.Common.{◌≡◌, ℕ, suc, ◌+◌, ◌-◌, ◌<◌, ◌≤◌, ◌⊎◌, Bool, true, false, ◌&&◌, List, [], ◌∷◌, ◌++◌, length, get_or, refl, sym, ap, subst, ◌∙◌, ⊎_elim, arith}
-use Rattle.std.specs.List.{All, AllPairs, Contains, list_all, list_any}
+use Rattle.std.proofs.Common.{◌≡◌, ℕ, suc, ◌+◌, ◌-◌, ◌<◌, ◌≤◌, ◌⊎◌, Bool, true, false, ◌&&◌, List, [], ◌∷◌, length, get_or, refl, sym, ap, subst, ◌∙◌, ⊎_elim, arith}
+use Rattle.std.specs.List.{Contains, list_all, list_any}
 use Rattle.std.proofs.lemmas.Bool.{cases_Bool, cases_eq, cases_order, false≢true}
-use Rattle.std.proofs.lemmas.List.Elements.{Contains-append_left, Contains-get_or, Contains-push, Contains-push_cases}
-use Rattle.std.proofs.lemmas.List.Quantifiers.{all_pairs_push}
-use Rattle.calc_addr.specs.Places.{IsBefore, Place, Rectangle, covers, places}
+use Rattle.calc_addr.specs.Places.{Place, Rectangle, covers, places}
 use Rattle.calc_addr.proofs.Walking.Places.{covers-contained}
 use Rattle.calc_model.specs.Grounded.{all_cells}
 use Rattle.calc_model.specs.Touched.{CellSet}
 use Rattle.dirty_spread.specs.Finding.{at}
 use Rattle.dirty_spread.specs.Levels.{AreLevels, is_in_one, level, read_by}
-use Rattle.dirty_spread.specs.WaveKeys.{AreGapless, AreLists, IsLeft}
+use Rattle.dirty_spread.specs.LevelLists.{AreGapless, AreLists, IsOfLevel}
 use Rattle.dirty_spread.specs.Waves.{AreAll, AreWaves, IsInNone, IsInWave, Problem, has, is_done}
 use Rattle.dirty_spread.proofs.Beside.{has_held}
 use Rattle.dirty_spread.proofs.Dones.{by_done, good, good_other, good_stale, later_than, other_good, stale_good}
-use Rattle.dirty_spread.proofs.Found.{at_holds, at_of, turn}
+use Rattle.dirty_spread.proofs.Found.{at_holds, at_of}
 use Rattle.dirty_spread.proofs.Fronts.{or_left, or_right}
-
--- cells that are left over, one place more
-module _ (cells : List Place) (in_order : AllPairs IsBefore cells) (levels : List ℕ) (n : ℕ) (left : List Place) (h : AreAll (λ q. IsLeft cells levels q n) left) (within : n < length cells) where
-  pub left_before : All (λ q. IsBefore q (at cells n)) left
-  left_before k d less =
-      let c = (h.exact (get_or left k d)).0 (Contains-get_or left k d less) in
-      subst (λ q. IsBefore q (at cells n)) c.2 (turn cells in_order c.0 n c.1 within)
-
-  pub left_more : level levels n ≡ 2 → AreAll (λ q. IsLeft cells levels q (n + 1)) (left ++ at cells n ∷ [])
-  left_more is = record {
-    in_order = all_pairs_push IsBefore left (at cells n) h.in_order left_before;
-    exact = λ q. (
-      λ c. ⊎_elim (λ (e : Contains left q). let was = (h.exact q).0 e in (was.0, omega (arith, was.1), was.2, was.3)) (λ (e : at cells n ≡ q). (n, omega arith, e, is)) (Contains-push_cases left (at cells n) q c),
-      λ c. ⊎_elim (λ (e : c.0 ≡ n). subst (Contains (left ++ at cells n ∷ [])) (ap (at cells) (sym e) ∙ c.2) (Contains-push left (at cells n)))
-          (λ (ne : c.0 ≡ n → ⊥). Contains-append_left left (at cells n ∷ []) q ((h.exact q).1 (c.0, omega (arith, c.1), c.2, c.3))) (cases_eq c.0 n),
-    );
-  }
-
-  pub left_skip : (level levels n ≡ 2 → ⊥) → AreAll (λ q. IsLeft cells levels q (n + 1)) left
-  left_skip ne = record {
-    in_order = h.in_order;
-    exact = λ q. (
-      λ c. let was = (h.exact q).0 c in (was.0, omega (arith, was.1), was.2, was.3),
-      λ c. ⊎_elim (λ (e : c.0 ≡ n). absurd (ne (ap (level levels) (sym e) ∙ c.3))) (λ (other : c.0 ≡ n → ⊥). (h.exact q).1 (c.0, omega (arith, c.1), c.2, c.3)) (cases_eq c.0 n),
-    );
-  }
 
 -- what doesn't pass, of the cells of areas
 not_all : (f : CellSet) (ps : List Place) → list_all f ps ≡ false → (q : Place) × Contains ps q × (f q ≡ false)
@@ -111,9 +83,9 @@ module _ (p : Problem) (levels : List ℕ) (h : AreLevels p levels) where
   pub are_waves : (waves : List (List Place)) → AreLists p.stale levels waves → AreWaves p waves
   are_waves waves lists = record {
     each = λ k. record {
-      in_order = lists.in_order k;
+      in_order = (lists.each k).in_order;
       exact = λ q. (
-        λ c. let i = (lists.each k q).0 c in in_wave k q i.0 i.1 i.2 i.3,
+        λ c. let i = ((lists.each k).exact q).0 c in in_wave k q i.0 i.1 i.2 i.3,
         λ c. of_wave k q c (at_of p.stale q c.stale),
       );
     };
@@ -125,9 +97,9 @@ module _ (p : Problem) (levels : List ℕ) (h : AreLevels p levels) where
 
       of_wave : (k : ℕ) (q : Place) → IsInWave p k q → ((i : ℕ) × (i < n) × (at p.stale i ≡ q)) → Contains (get_or waves k []) q
       of_wave k q c (i, within, here) =
-          (lists.each k q).1 (i, within, here, wave_is i k within (subst (λ x. is_done p (suc k) x ≡ true) (sym here) c.done) (subst (λ x. is_done p k x ≡ false) (sym here) c.not_yet))
+          ((lists.each k).exact q).1 (i, within, here, wave_is i k within (subst (λ x. is_done p (suc k) x ≡ true) (sym here) c.done) (subst (λ x. is_done p k x ≡ false) (sym here) c.not_yet))
 
-  pub are_left : (left : List Place) → AreAll (λ q. IsLeft p.stale levels q n) left → AreAll (IsInNone p) left
+  pub are_left : (left : List Place) → AreAll (IsOfLevel p.stale levels 2 n) left → AreAll (IsInNone p) left
   are_left left all = record {
     in_order = all.in_order;
     exact = λ q. (

@@ -418,6 +418,7 @@ module _ (p : Problem) where
     circular = h.circular;
     settled = λ i within. ⊎_elim (λ (one : level levels i ≡ 1). let f = h.on_path i one in absurd (no_frames f.0 f.1))
         (λ (ne : level levels i ≡ 1 → ⊥). above (level levels i) (looked i within) ne) (cases_eq (level levels i) 1);
+    bound = λ i. omega (arith, h.bound i);
   }
     where
       no_frames : (f : Frame) → Contains [] f → ⊥

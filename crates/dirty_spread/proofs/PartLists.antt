@@ -10,7 +10,7 @@ use Rattle.std.proofs.lemmas.List.FromFn.{get_or-map-range_with_len, length-map-
 use Rattle.calc_addr.specs.Places.{Place, Rows}
 use Rattle.cell_runs.specs.CellLists.{all_cells, cells_of}
 use Rattle.cell_runs.proofs.Indexed.{cells-joined}
-use Rattle.dirty_spread.specs.WaveKeys.{IsAdded, IsOpened}
+use Rattle.dirty_spread.specs.LevelLists.{IsAdded, IsOpened}
 use Rattle.dirty_spread.specs.WaveLists.{AreStarts, lists_of, part}
 
 pub lists_size : (runs : List Rows) (starts : List ℕ) → length (lists_of runs starts) ≡ length starts

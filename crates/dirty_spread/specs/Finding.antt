@@ -1,8 +1,6 @@
 -- Places of cells in a list in order.
 use Rattle.std.specs.Prelude.{◌≡◌, ◌≤◌, ◌<◌, ℕ, true, false, List, length, slice_index_or, Option, Some, None}
 use Rattle.calc_addr.specs.Places.{IsBefore, Place, Rectangle, covers}
-use Rattle.calc_model.specs.Scalars.{CellValues}
-use Rattle.calc_model.specs.UsedCells.{is_circle}
 use Rattle.dirty_spread.specs.Waves.{has}
 
 -- the cell at a place of the list
@@ -26,8 +24,15 @@ abbrev pub IsSkip : Rectangle → Place → Option Place → Type 0
 IsSkip area cell None = (q : Place) → IsBefore cell q → covers area q ≡ false
 IsSkip area cell (Some next) = IsBefore cell next × ((q : Place) → IsBefore cell q → IsBefore q next → covers area q ≡ false)
 
--- The cell of an area isn't in the list and shows a circle.
-pub record IsCircleIn (cells : List Place) (values : CellValues) (area : Rectangle) (q : Place) : Type 0 where
+-- The cell of an area isn't in the list, but is one of the circular ones.
+pub record IsCircleIn (cells circles : List Place) (area : Rectangle) (q : Place) : Type 0 where
   pub covered : covers area q ≡ true
   pub beside : has cells q ≡ false
-  pub circle : is_circle (values q) ≡ true
+  pub circle : has circles q ≡ true
+
+-- The place among the circular cells is that of one of the area or behind all, and each one of the area before it is
+-- in the list.
+pub record IsPassed (cells circles : List Place) (area : Rectangle) (place : ℕ) : Type 0 where
+  pub within : place ≤ length circles
+  pub here : place < length circles → covers area (at circles place) ≡ true
+  pub before : (i : ℕ) → i < place → covers area (at circles i) ≡ true → has cells (at circles i) ≡ true

@@ -99,6 +99,7 @@ pub record AreLevels (problem : Problem) (levels : List ℕ) : Type 0 where
   pub wave : (i k : ℕ) → i < length problem.stale → level levels i ≡ k + 3 → (is_done problem (suc k) (at problem.stale i) ≡ true) × (is_done problem k (at problem.stale i) ≡ false)
   pub circular : (i k : ℕ) → i < length problem.stale → level levels i ≡ 2 → is_done problem k (at problem.stale i) ≡ false
   pub settled : (i : ℕ) → i < length problem.stale → 2 ≤ level levels i
+  pub bound : (i : ℕ) → level levels i ≤ 2 * length problem.stale + 3
 
 -- The place's level may be made 2.
 abbrev pub IsClosable : List ℕ → Frame → Type 0

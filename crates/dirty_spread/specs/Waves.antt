@@ -6,9 +6,7 @@ use Rattle.std.specs.Ordering.{eq_by_cmp}
 use Rattle.calc_addr.specs.Places.{IsBefore, Place, place_cmp}
 use Rattle.calc_model.specs.Grounded.{all_cells}
 use Rattle.calc_model.specs.Listeners.{ReadAreas, listed}
-use Rattle.calc_model.specs.Scalars.{CellValues}
 use Rattle.calc_model.specs.Touched.{CellSet}
-use Rattle.calc_model.specs.UsedCells.{is_circle}
 
 -- whether the cell is one of the list's
 abbrev pub has : List Place → CellSet
@@ -20,9 +18,9 @@ pub record Problem : Type 0 where
   pub stale : List Place
   pub circular : CellSet
 
--- the problem of stale cells, by what shows the values of the others
-abbrev pub problem_of : ReadAreas → List Place → CellValues → Problem
-problem_of read stale values = record { read = read; stale = stale; circular = λ q. is_circle (values q) }
+-- the problem of stale cells, where these are the cells that show circles
+abbrev pub problem_of : ReadAreas → List Place → List Place → Problem
+problem_of read stale circles = record { read = read; stale = stale; circular = has circles }
 
 -- The cell is done before the wave of that number: each cell that it reads was done before the wave in front, if it is
 -- stale, and shows no circle otherwise.

@@ -9,7 +9,7 @@ ghost use Rattle.dirty_spread.specs.Levels.{AreLevels, IsCircular, IsClosable, I
 
 use crate::look::{CIRCULAR, Cursor, Frame, Seen, look};
 use calc_addr::{Area, NoMemory};
-use calc_model::{Dependents, Values};
+use calc_model::Dependents;
 use cell_runs::CellRuns;
 use std::alloc::Global;
 
@@ -103,28 +103,29 @@ fn read_areas<H: Dependents>(
 
 /// Looks at what a cell reads that is being looked at, the last of a path: it gets its wave, or
 /// goes on to a cell that has none yet. Where that one leads to it, all on the path are in no wave.
-fn visit<V: Values, H: Dependents>(
+fn visit<H: Dependents>(
     frame: &Frame,
     stale: &CellRuns,
-    ready: &V,
+    circles: &CellRuns,
     hub: &H,
     levels: &mut [usize],
     path: &mut Vec<Frame>,
     areas: &mut Vec<Area>,
 ) -> Result<(), NoMemory>
     requires in_order { AllPairs IsBefore stale.now }
+    requires circles { AllPairs IsBefore circles.now }
     requires ready { H.ready hub.now ≡ true }
-    requires ordering { IsOrdering (problem_of (H.areas hub.now) stale.now (V.values ready.now))
+    requires ordering { IsOrdering (problem_of (H.areas hub.now) stale.now circles.now)
         levels.old (path.old.items ++ frame.now ∷ []) }
     ensures ordering { OnOk result
-        (IsOrdering (problem_of (H.areas hub.now) stale.now (V.values ready.now))
+        (IsOrdering (problem_of (H.areas hub.now) stale.now circles.now)
         levels.new path.new.items) }
     ensures less { OnOk result (rest levels.new path.new.items
         < rest levels.old (path.old.items ++ frame.now ∷ [])) }
     ensures kept { OnOk result ((i : ℕ) → level levels.new i ≡ 0 → level levels.old i ≡ 0) }
 {
     read_areas(stale, hub, frame.place, areas)?;
-    match look(stale, ready, levels, areas, &frame.cursor) {
+    match look(stale, circles, levels, areas, &frame.cursor) {
         Seen::Settled(cursor) => {
             levels[frame.place] = cursor.greatest + 1;
             Ok(())
@@ -144,24 +145,25 @@ fn visit<V: Values, H: Dependents>(
 }
 
 /// Finds the wave of a cell that wasn't looked at, and of all that it reads.
-fn level_from<V: Values, H: Dependents>(
+fn level_from<H: Dependents>(
     place: usize,
     stale: &CellRuns,
-    ready: &V,
+    circles: &CellRuns,
     hub: &H,
     levels: &mut [usize],
     path: &mut Vec<Frame>,
     areas: &mut Vec<Area>,
 ) -> Result<(), NoMemory>
     requires in_order { AllPairs IsBefore stale.now }
+    requires circles { AllPairs IsBefore circles.now }
     requires ready { H.ready hub.now ≡ true }
     requires within { place < length levels.old }
     requires new { level levels.old place ≡ 0 }
     requires empty { path.old.items ≡ [] }
-    requires ordering { IsOrdering (problem_of (H.areas hub.now) stale.now (V.values ready.now))
+    requires ordering { IsOrdering (problem_of (H.areas hub.now) stale.now circles.now)
         levels.old [] }
     ensures ordering { OnOk result
-        (IsOrdering (problem_of (H.areas hub.now) stale.now (V.values ready.now)) levels.new []) }
+        (IsOrdering (problem_of (H.areas hub.now) stale.now circles.now) levels.new []) }
     ensures empty { OnOk result (path.new.items ≡ []) }
     ensures kept { OnOk result ((i : ℕ) → level levels.new i ≡ 0 → level levels.old i ≡ 0) }
     ensures place { OnOk result (level levels.new place ≢ 0) }
@@ -169,7 +171,7 @@ fn level_from<V: Values, H: Dependents>(
     levels[place] = OPEN;
     path.push(frame_at(place))?;
     while let Some(frame) = path.pop() {
-        visit(&frame, stale, ready, hub, levels, path, areas)?;
+        visit(&frame, stale, circles, hub, levels, path, areas)?;
     }
     Ok(())
 }
@@ -177,25 +179,26 @@ fn level_from<V: Values, H: Dependents>(
 /// Finds the waves of all stale cells, of which none was looked at. Linear in what they read by
 /// areas of few cells; a stretch of stale cells of an area is gone over once by each cell that
 /// reads it.
-pub(crate) fn find_levels<V: Values, H: Dependents>(
+pub(crate) fn find_levels<H: Dependents>(
     alloc: Global,
     stale: &CellRuns,
-    ready: &V,
+    circles: &CellRuns,
     hub: &H,
     levels: &mut [usize],
 ) -> Result<(), NoMemory>
     requires in_order { AllPairs IsBefore stale.now }
+    requires circles { AllPairs IsBefore circles.now }
     requires ready { H.ready hub.now ≡ true }
     requires size { length levels.old ≡ length stale.now }
     requires new { (i : ℕ) → level levels.old i ≡ 0 }
     ensures { OnOk result (AreLevels
-        (problem_of (H.areas hub.now) stale.now (V.values ready.now)) levels.new) }
+        (problem_of (H.areas hub.now) stale.now circles.now) levels.new) }
 {
     let mut path = Vec::new(alloc);
     let mut areas = Vec::new(alloc);
     for place in 0..levels.len() {
         if levels[place] == NEW {
-            level_from(place, stale, ready, hub, levels, &mut path, &mut areas)?;
+            level_from(place, stale, circles, hub, levels, &mut path, &mut areas)?;
         }
     }
     Ok(())

@@ -3,6 +3,7 @@
 
 mod circles;
 mod finding;
+mod level_lists;
 mod leveling;
 mod look;
 mod marking;
@@ -12,5 +13,6 @@ mod wave_list;
 mod waves;
 
 pub use spreading::spread;
+pub use union::union_of_runs;
 pub use wave_list::WaveList;
 pub use waves::{Waves, order};

@@ -2,13 +2,12 @@
 ghost use Rattle.std.specs.Prelude.{◌≡◌, ◌≤◌, ◌<◌, false, length, true};
 ghost use Rattle.std.specs.List.{AllPairs};
 ghost use Rattle.calc_addr.specs.Places.{IsBefore, Place, covers};
-ghost use Rattle.calc_model.specs.UsedCells.{is_circle};
 ghost use Rattle.dirty_spread.specs.Levels.{IsLooked, IsScan, IsSeen, level};
+ghost use Rattle.dirty_spread.specs.Waves.{has};
 
-use crate::circles::shows_circle;
+use crate::circles::has_circle;
 use crate::finding::next_in;
 use calc_addr::Area;
-use calc_model::Values;
 use cell_runs::CellRuns;
 
 /// The level of a cell in no wave.
@@ -69,18 +68,19 @@ fn scan(
 }
 
 /// Looks at what a cell reads from a cursor on, until a cell is met that has no wave.
-pub(crate) fn look<V: Values>(
+pub(crate) fn look(
     cells: &CellRuns,
-    ready: &V,
+    circles: &CellRuns,
     levels: &[usize],
     areas: &[Area],
     start: &Cursor,
 ) -> Seen
     requires in_order { AllPairs IsBefore cells.now }
+    requires circles { AllPairs IsBefore circles.now }
     requires size { length levels.now ≡ length cells.now }
-    requires looked { IsLooked cells.now (λ q. is_circle (V.values ready.now q))
+    requires looked { IsLooked cells.now (has circles.now)
         areas.now levels.now start.now }
-    ensures { IsSeen cells.now (λ q. is_circle (V.values ready.now q))
+    ensures { IsSeen cells.now (has circles.now)
         areas.now levels.now result }
 {
     let mut cursor = *start;
@@ -94,7 +94,7 @@ pub(crate) fn look<V: Values>(
                 greatest,
             });
         }
-        if shows_circle(cells, ready, area) {
+        if has_circle(cells, circles, area) {
             return Seen::Circle;
         }
         cursor = Cursor {

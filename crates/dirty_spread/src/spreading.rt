@@ -5,7 +5,7 @@ ghost use Rattle.dirty_spread.specs.Marking.{Marks, area_of, has_mark, is_in_any
 ghost use Rattle.dirty_spread.specs.Spreading.{AreFormulas, AreStale, IsStale};
 
 use crate::marking::{mark_areas, mark_run};
-use crate::union::union;
+use crate::union::union_of_runs;
 use calc_addr::{Area, NoMemory, Run};
 use calc_model::Dependents;
 use cell_runs::CellRuns;
@@ -124,5 +124,5 @@ pub fn spread<H: Dependents>(
     let _ = workers;
     let mut marks = vec![in alloc; false; formulas.len()]?;
     let found = search(alloc, touched, formulas, hub, &mut marks)?;
-    union(alloc, found)
+    union_of_runs(alloc, found)
 }

@@ -1,6 +1,6 @@
 ghost use Rattle.std.specs.Prelude.{◌≡◌, ◌≢◌, ◌≤◌, ◌<◌, ◌+◌, ◌-◌, ◌↔◌, [], false, length, slice_index_or, IsTrue, OnOk};
 ghost use Rattle.std.specs.List.{slice_range};
-ghost use Rattle.dirty_spread.specs.WaveKeys.{IsAdded, IsOpened};
+ghost use Rattle.dirty_spread.specs.LevelLists.{IsAdded, IsOpened};
 ghost use Rattle.dirty_spread.specs.WaveLists.{AreStarts, part};
 ghost use Rattle.cell_runs.specs.CellLists.{all_cells};
 

@@ -4,76 +4,17 @@ ghost use Rattle.std.specs.List.{All, AllPairs};
 ghost use Rattle.calc_addr.specs.Places.{IsBefore};
 ghost use Rattle.dirty_spread.specs.Finding.{at};
 ghost use Rattle.dirty_spread.specs.Levels.{level};
-ghost use Rattle.dirty_spread.specs.WaveKeys.{AreGapless, AreKeys, AreLists, AreSorted, IsAdded, IsLeft};
+ghost use Rattle.dirty_spread.specs.LevelLists.{IsOfLevel};
 ghost use Rattle.dirty_spread.specs.Waves.{AreAll, AreWaves, IsInNone, problem_of};
 
+use crate::level_lists::lists;
 use crate::leveling::find_levels;
-use crate::look::{CIRCULAR, FIRST};
+use crate::look::CIRCULAR;
 use crate::wave_list::WaveList;
 use calc_addr::{NoMemory, Run};
-use calc_model::{Dependents, Values};
+use calc_model::Dependents;
 use cell_runs::CellRuns;
 use std::alloc::Global;
-
-/// A level's place among the numbers of cells.
-const LEVEL: u128 = 1 << 64;
-
-/// The numbers of the cells that have waves.
-fn keys(alloc: Global, levels: &[usize]) -> Result<Vec<u128>, NoMemory>
-    ensures { IfOk result (λ keys. AreKeys levels.now (length levels.now) keys.items) }
-{
-    let count = levels.len();
-    let mut keys = Vec::new(alloc);
-    for place in 0..count {
-        if levels[place] >= FIRST {
-            keys.push(levels[place] as u128 * LEVEL + place as u128)?;
-        }
-    }
-    Ok(keys)
-}
-
-/// The numbers of the cells that have waves, by wave and then in the order of cells.
-fn sorted_keys(alloc: Global, levels: &[usize]) -> Result<Vec<u128>, NoMemory>
-    ensures { IfOk result (λ keys. AreSorted levels.now (length levels.now) keys.items) }
-{
-    let mut keys = keys(alloc, levels)?;
-    keys.sort_unstable();
-    Ok(keys)
-}
-
-/// Appends the cell of a number to its wave, the last of the list or the one behind it.
-fn push_key(stale: &CellRuns, key: u128, waves: &mut WaveList) -> Result<(), NoMemory>
-    requires place { key % 2 ^ 64 < length stale.now }
-    requires least { 3 ≤ key / 2 ^ 64 }
-    requires next { key / 2 ^ 64 - 3 ≤ length waves.old }
-    requires last { length waves.old ≤ key / 2 ^ 64 - 3 + 1 }
-    ensures { OnOk result (IsAdded waves.old waves.new (key / 2 ^ 64 - 3)
-        (at stale.now (key % 2 ^ 64))) }
-{
-    let wave = (key / LEVEL) as usize - FIRST;
-    if wave == waves.len() {
-        waves.open()?;
-    }
-    match stale.cell((key % LEVEL) as usize) {
-        Some(cell) => waves.push(cell),
-        None => Ok(()),
-    }
-}
-
-/// The waves, each with its cells in order.
-fn lists(alloc: Global, stale: &CellRuns, levels: &[usize]) -> Result<WaveList, NoMemory>
-    requires in_order { AllPairs IsBefore stale.now }
-    requires size { length levels.now ≡ length stale.now }
-    requires gapless { AreGapless levels.now (length stale.now) }
-    ensures { IfOk result (AreLists stale.now levels.now) }
-{
-    let keys = sorted_keys(alloc, levels)?;
-    let mut waves = WaveList::new(alloc);
-    for key in keys.as_slice() {
-        push_key(stale, *key, &mut waves)?;
-    }
-    Ok(waves)
-}
 
 /// Appends the cell at a place.
 fn push_place(stale: &CellRuns, place: usize, cells: &mut CellRuns) -> Result<(), NoMemory>
@@ -96,7 +37,7 @@ fn push_place(stale: &CellRuns, place: usize, cells: &mut CellRuns) -> Result<()
 fn left_over(alloc: Global, stale: &CellRuns, levels: &[usize]) -> Result<CellRuns, NoMemory>
     requires in_order { AllPairs IsBefore stale.now }
     requires size { length levels.now ≡ length stale.now }
-    ensures { IfOk result (AreAll (λ q. IsLeft stale.now levels.now q (length stale.now))) }
+    ensures { IfOk result (AreAll (IsOfLevel stale.now levels.now 2 (length stale.now))) }
 {
     let mut cells = CellRuns::new(alloc);
     for place in 0..levels.len() {
@@ -115,47 +56,50 @@ pub struct Waves {
 }
 
 /// The waves of stale cells, none of which was looked at, by their levels.
-fn order_with<V: Values, H: Dependents>(
+fn order_with<H: Dependents>(
     alloc: Global,
     stale: &CellRuns,
-    ready: &V,
+    circles: &CellRuns,
     hub: &H,
     levels: &mut [usize],
 ) -> Result<Waves, NoMemory>
     requires in_order { AllPairs IsBefore stale.now }
+    requires circles { AllPairs IsBefore circles.now }
     requires ready { H.ready hub.now ≡ true }
     requires size { length levels.old ≡ length stale.now }
     requires new { (i : ℕ) → level levels.old i ≡ 0 }
     ensures waves { IfOk result (λ w. AreWaves
-        (problem_of (H.areas hub.now) stale.now (V.values ready.now)) w.waves) }
+        (problem_of (H.areas hub.now) stale.now circles.now) w.waves) }
     ensures circular { IfOk result (λ w. AreAll
-        (IsInNone (problem_of (H.areas hub.now) stale.now (V.values ready.now))) w.circular) }
+        (IsInNone (problem_of (H.areas hub.now) stale.now circles.now)) w.circular) }
 {
-    find_levels(alloc, stale, ready, hub, levels)?;
+    find_levels(alloc, stale, circles, hub, levels)?;
     let waves = lists(alloc, stale, levels)?;
     let circular = left_over(alloc, stale, levels)?;
     Ok(Waves { waves, circular })
 }
 
-/// The waves of stale cells. Each one that reads no circle stands in the first wave behind those of
-/// all stale cells that it reads; what the other cells show says which of them are circular.
+/// The waves of stale cells. Each one that reaches no circle stands in the first wave behind those
+/// of all stale cells that it reads. `circles` has the circular cells beside the stale ones, and may
+/// have stale ones too, of which it says nothing.
 ///
 /// Each stale cell is asked what it reads once, and once more for each cell that it is first to go
 /// on to. The stale cells of an area are gone over once by each cell that reads it. Sorts the stale
 /// cells by their waves.
-pub fn order<V: Values, H: Dependents>(
+pub fn order<H: Dependents>(
     alloc: Global,
     stale: &CellRuns,
-    ready: &V,
+    circles: &CellRuns,
     hub: &H,
 ) -> Result<Waves, NoMemory>
     requires in_order { AllPairs IsBefore stale.now }
+    requires circles { AllPairs IsBefore circles.now }
     requires ready { H.ready hub.now ≡ true }
     ensures waves { IfOk result (λ w. AreWaves
-        (problem_of (H.areas hub.now) stale.now (V.values ready.now)) w.waves) }
+        (problem_of (H.areas hub.now) stale.now circles.now) w.waves) }
     ensures circular { IfOk result (λ w. AreAll
-        (IsInNone (problem_of (H.areas hub.now) stale.now (V.values ready.now))) w.circular) }
+        (IsInNone (problem_of (H.areas hub.now) stale.now circles.now)) w.circular) }
 {
     let mut levels = vec![in alloc; 0; stale.len()]?;
-    order_with(alloc, stale, ready, hub, &mut levels)
+    order_with(alloc, stale, circles, hub, &mut levels)
 }

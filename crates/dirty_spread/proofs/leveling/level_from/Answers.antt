@@ -8,7 +8,7 @@ use Rattle.dirty_spread.proofs.leveling.level_from.Goals as goal
 
 pub loop-frame-init : goal.loop-frame-init
 loop-frame-init g c =
-    let p : Problem = problem_of (g.H.Dependents.areas c.args.hub.now) c.args.stale.now (g.V.Values.values c.args.ready.now) in
+    let p : Problem = problem_of (g.H.Dependents.areas c.args.hub.now) c.args.stale.now c.args.circles.now in
     let pushed : c.push.new.self.items ≡ record { place = c.args.place; cursor = record { area = 0; next = 0; greatest = 2 } } ∷ [] =
     c.in_ok-push.ensures.items ∙ ap (λ (f : Frame). c.args.path.now.items ++ f ∷ []) c.frame_at.ensures ∙ ap (λ (fs : List Frame). fs ++ record { place = c.args.place; cursor = record { area = 0; next = 0; greatest = 2 } } ∷ []) c.requires.empty in
     record {

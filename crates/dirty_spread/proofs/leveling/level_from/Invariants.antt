@@ -5,7 +5,7 @@ use Rattle.dirty_spread.proofs.leveling.level_from.Given as goal
 
 abbrev pub invariant-loop-frame : goal.invariant-loop-frame
 invariant-loop-frame g l = record {
-  ordering : IsOrdering (problem_of (g.H.Dependents.areas l.hub) l.stale (g.V.Values.values l.ready)) l.levels l.path.items;
+  ordering : IsOrdering (problem_of (g.H.Dependents.areas l.hub) l.stale l.circles) l.levels l.path.items;
   kept : (i : ℕ) → level l.levels i ≡ 0 → level l.fn.levels i ≡ 0;
   place : level l.levels l.place ≢ 0;
 }

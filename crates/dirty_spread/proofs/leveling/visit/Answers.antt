@@ -10,7 +10,7 @@ use Rattle.dirty_spread.proofs.leveling.visit.Goals as goal
 
 pub returns-then-levels-cursor-eq-NEW-clause-ordering : goal.returns-then-levels-cursor-eq-NEW-clause-ordering
 returns-then-levels-cursor-eq-NEW-clause-ordering g c =
-    let p : Problem = problem_of (g.H.Dependents.areas c.args.hub.now) c.args.stale.now (g.V.Values.values c.args.ready.now) in
+    let p : Problem = problem_of (g.H.Dependents.areas c.args.hub.now) c.args.stale.now c.args.circles.now in
     let areas : c.deref.result.now ≡ read_by p c.args.frame.now.place = c.deref.ensures.value ∙ c.in_ok-read_areas.ensures in
     let opened = subst (λ (as' : List Rectangle). IsOpen p.stale as' c.args.levels.now c.in-Open.cursor.next) areas c.in-Open.ensures.0 in
     let looked = subst (λ (as' : List Rectangle). IsLooked p.stale p.circular as' c.args.levels.now c.in-Open.cursor) areas c.in-Open.ensures.1 in
@@ -21,7 +21,7 @@ returns-then-levels-cursor-eq-NEW-clause-ordering g c =
 
 pub returns-in-Settled-clause-ordering : goal.returns-in-Settled-clause-ordering
 returns-in-Settled-clause-ordering g c =
-    let p : Problem = problem_of (g.H.Dependents.areas c.args.hub.now) c.args.stale.now (g.V.Values.values c.args.ready.now) in
+    let p : Problem = problem_of (g.H.Dependents.areas c.args.hub.now) c.args.stale.now c.args.circles.now in
     let areas : c.deref.result.now ≡ read_by p c.args.frame.now.place = c.deref.ensures.value ∙ c.in_ok-read_areas.ensures in
     let all = subst (λ (as' : List Rectangle). length as' ≤ c.in-Settled.cursor.area) areas c.in-Settled.ensures.0 in
     let looked = subst (λ (as' : List Rectangle). IsLooked p.stale p.circular as' c.args.levels.now c.in-Settled.cursor) areas c.in-Settled.ensures.1 in
@@ -29,7 +29,7 @@ returns-in-Settled-clause-ordering g c =
 
 pub returns-in-Settled-clause-less : goal.returns-in-Settled-clause-less
 returns-in-Settled-clause-less g c =
-    let p : Problem = problem_of (g.H.Dependents.areas c.args.hub.now) c.args.stale.now (g.V.Values.values c.args.ready.now) in
+    let p : Problem = problem_of (g.H.Dependents.areas c.args.hub.now) c.args.stale.now c.args.circles.now in
     let areas : c.deref.result.now ≡ read_by p c.args.frame.now.place = c.deref.ensures.value ∙ c.in_ok-read_areas.ensures in
     let all = subst (λ (as' : List Rectangle). length as' ≤ c.in-Settled.cursor.area) areas c.in-Settled.ensures.0 in
     let looked = subst (λ (as' : List Rectangle). IsLooked p.stale p.circular as' c.args.levels.now c.in-Settled.cursor) areas c.in-Settled.ensures.1 in
@@ -37,7 +37,7 @@ returns-in-Settled-clause-less g c =
 
 pub returns-else-levels-cursor-eq-NEW-clause-ordering : goal.returns-else-levels-cursor-eq-NEW-clause-ordering
 returns-else-levels-cursor-eq-NEW-clause-ordering g c =
-    let p : Problem = problem_of (g.H.Dependents.areas c.args.hub.now) c.args.stale.now (g.V.Values.values c.args.ready.now) in
+    let p : Problem = problem_of (g.H.Dependents.areas c.args.hub.now) c.args.stale.now c.args.circles.now in
     let areas : c.deref.result.now ≡ read_by p c.args.frame.now.place = c.deref.ensures.value ∙ c.in_ok-read_areas.ensures in
     let opened = subst (λ (as' : List Rectangle). IsOpen p.stale as' c.args.levels.now c.in-Open.cursor.next) areas c.in-Open.ensures.0 in
     subst (λ (fs : List Frame). IsOrdering p c.close_path.new.levels fs) (sym c.close_path.ensures.empty)
@@ -47,7 +47,7 @@ returns-else-levels-cursor-eq-NEW-clause-ordering g c =
 
 pub returns-in-Circle-clause-ordering : goal.returns-in-Circle-clause-ordering
 returns-in-Circle-clause-ordering g c =
-    let p : Problem = problem_of (g.H.Dependents.areas c.args.hub.now) c.args.stale.now (g.V.Values.values c.args.ready.now) in
+    let p : Problem = problem_of (g.H.Dependents.areas c.args.hub.now) c.args.stale.now c.args.circles.now in
     let areas : c.deref.result.now ≡ read_by p c.args.frame.now.place = c.deref.ensures.value ∙ c.in_ok-read_areas.ensures in
     let beside = subst (λ (as' : List Rectangle). IsCircleBeside p.stale p.circular as' c.in-Circle.ensures.0) areas c.in-Circle.ensures.1 in
     subst (λ (fs : List Frame). IsOrdering p c.close_path-in-Circle.new.levels fs) (sym c.close_path-in-Circle.ensures.empty)

@@ -7,7 +7,7 @@ use Rattle.dirty_spread.proofs.spreading.spread.Goals as goal
 pub returns : goal.returns
 returns g c =
     let read : ReadAreas = g.H.Dependents.areas c.args.hub.now in
-    if_ok {P = AreUnion c.in_ok-found.found.items} {Q = AreStale read c.args.touched.now} c.union.result
+    if_ok {P = AreUnion c.in_ok-found.found.items} {Q = AreStale read c.args.touched.now} c.union_of_runs.result
     (λ cells union. record {
       in_order = union.in_order;
       exact = λ q. (
@@ -15,4 +15,4 @@ returns g c =
         λ stale. (union.exact q).1 ((c.in_ok-found.ensures q).1 stale),
       );
     })
-    c.union.ensures
+    c.union_of_runs.ensures

@@ -1,6 +1,6 @@
-use Rattle.dirty_spread.specs.WaveKeys.{IsLeft}
+use Rattle.dirty_spread.specs.LevelLists.{IsOfLevel}
 use Rattle.dirty_spread.specs.Waves.{AreAll}
 use Rattle.dirty_spread.proofs.waves.left_over.Given as goal
 
 abbrev pub invariant-loop-place : goal.invariant-loop-place
-invariant-loop-place l = AreAll (λ q. IsLeft l.stale l.levels q l.place) l.cells
+invariant-loop-place l = AreAll (IsOfLevel l.stale l.levels 2 l.place) l.cells

@@ -1,6 +1,6 @@
 use Rattle.std.proofs.Common.{◌≡◌, ◌<◌, ◌-◌, ◌∷◌, ◌++◌, [], List, length, sym, ap, subst, ◌∙◌, arith}
 use Rattle.calc_addr.specs.Places.{Place, Rows}
-use Rattle.dirty_spread.specs.WaveKeys.{IsAdded}
+use Rattle.dirty_spread.specs.LevelLists.{IsAdded}
 use Rattle.dirty_spread.specs.WaveLists.{AreStarts, lists_of}
 use Rattle.dirty_spread.proofs.PartLists.{added, lists_size, not_none, one_cell, starts_more}
 use Rattle.dirty_spread.proofs.wave_list.WaveList.append.Goals as goal

@@ -4,7 +4,7 @@ use Rattle.std.proofs.lemmas.List.Sorted.{IsNonDecreasingBy-from_sort_by_key, li
 use Rattle.calc_addr.specs.Places.{Rows}
 use Rattle.cell_runs.specs.CellLists.{first_number}
 use Rattle.run_unions.specs.Unions.{AreUnion, is_in}
-use Rattle.dirty_spread.proofs.union.union.Goals as goal
+use Rattle.dirty_spread.proofs.union.union_of_runs.Goals as goal
 
 pub push_runs-requires-clause-sorted : goal.push_runs-requires-clause-sorted
 push_runs-requires-clause-sorted c =
