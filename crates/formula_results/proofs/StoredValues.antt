@@ -20,9 +20,10 @@ use Rattle.calc_model.specs.UsedCells.{is_used}
 use Rattle.calc_model.proofs.Places.{same_places}
 use Rattle.calc_model.proofs.Reached.{same_cell}
 use Rattle.run_tables.specs.Rows.{rows_set, spliced}
+use Rattle.run_unions.specs.Unions.{is_in}
 use Rattle.value_column.specs.Sheets.{row_value, IsEdited, IsSet, ShowsSame, cell_values, column_place, shown_at, shown_in}
 use Rattle.value_column.specs.ValueRows.{ValueRows, no_values}
-use Rattle.formula_results.specs.Results.{Clears, SameResults, is_in_run, result_of, results_of}
+use Rattle.formula_results.specs.Results.{Clears, SameResults, result_of, results_of}
 
 true_not_false : (b : Bool) → b ≡ true → b ≡ false → ⊥
 true_not_false true h k = cc
@@ -162,10 +163,10 @@ record IsInRun (run : Rows) (q : Place) : Type 0 where
   from : run.first ≤ q.row
   to : q.row ≤ run.last
 
-in_run : (run : Rows) (q : Place) → is_in_run run q ≡ true → IsInRun run q
+in_run : (run : Rows) (q : Place) → is_in q run ≡ true → IsInRun run q
 in_run run q h = record { sheet = grind (arith, nat_tests); col = grind (arith, nat_tests); from = grind (arith, nat_tests); to = grind (arith, nat_tests) }
 
-in_run_so : (run : Rows) (q : Place) → IsInRun run q → is_in_run run q ≡ true
+in_run_so : (run : Rows) (q : Place) → IsInRun run q → is_in q run ≡ true
 in_run_so run q h = grind (arith, nat_tests, h.sheet, h.col, h.from, h.to)
 
 module _ (old new : List (Option ValueRows)) (run : Rows) where
@@ -211,10 +212,10 @@ module _ (old new : List (Option ValueRows)) (run : Rows) where
     pub clear_results : Clears (results_of old) (results_of new) run
     unfolding results_of
     clear_results q =
-        elim (is_in_run run q) as (λ b. is_in_run run q ≡ b → cond (is_place q) (result_of (cell_values new q)) None ≡ cond b None (cond (is_place q) (result_of (cell_values old q)) None)) [
+        elim (is_in q run) as (λ b. is_in q run ≡ b → cond (is_place q) (result_of (cell_values new q)) None ≡ cond b None (cond (is_place q) (result_of (cell_values old q)) None)) [
           | true ↦ λ is. ap (λ v. cond (is_place q) (result_of v) None) (in_it q (in_run run q is)) ∙ none_either_way None (is_place q) refl
           | false ↦ λ is_not. elim (is_place q) as (λ b. is_place q ≡ b → cond b (result_of (cell_values new q)) None ≡ cond b (result_of (cell_values old q)) None) [
-            | true ↦ λ at. ap result_of (outside q (is_place_of q at) (λ h. true_not_false (is_in_run run q) (in_run_so run q h) is_not))
+            | true ↦ λ at. ap result_of (outside q (is_place_of q at) (λ h. true_not_false (is_in q run) (in_run_so run q h) is_not))
             | false ↦ λ _. refl
           ] refl
         ] refl

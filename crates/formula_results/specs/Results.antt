@@ -1,10 +1,11 @@
 -- Which result a cell has, by stored values: a blank one is none.
-use Rattle.std.specs.Prelude.{◌≡◌, ◌&&◌, nat_le, ◌==◌, Bool, List, Option, None, Some, if◌then◌else◌}
+use Rattle.std.specs.Prelude.{◌≡◌, List, Option, None, Some, if◌then◌else◌}
 use Rattle.calc_addr.specs.Places.{Place, Rows}
 use Rattle.calc_model.specs.declared.value.Value.{Value}
 use Rattle.calc_model.specs.declared.value.Value.TheVariants.{Blank}
 use Rattle.calc_model.specs.Books.{is_place}
 use Rattle.calc_model.specs.Results.{Results}
+use Rattle.run_unions.specs.Unions.{is_in}
 use Rattle.value_column.specs.Sheets.{cell_values}
 use Rattle.value_column.specs.ValueRows.{ValueRows}
 
@@ -16,13 +17,9 @@ result_of value = Some value
 unfoldable pub results_of : List (Option ValueRows) → Results
 results_of sheets cell = if is_place cell then result_of (cell_values sheets cell) else None
 
--- the cell is one of the run's
-abbrev pub is_in_run : Rows → Place → Bool
-is_in_run run q = (q.sheet == run.sheet) && (q.col == run.col) && nat_le run.first q.row && nat_le q.row run.last
-
 -- the cells of a run have no result any more, and the others have theirs
 abbrev pub Clears : Results → Results → Rows → Type 0
-Clears old new run = (q : Place) → new q ≡ (if is_in_run run q then None else old q)
+Clears old new run = (q : Place) → new q ≡ (if is_in q run then None else old q)
 
 -- each cell has the result that it had
 abbrev pub SameResults : Results → Results → Type 0

@@ -1,0 +1,35 @@
+-- Results of formulas on the way to those of all: some cells get theirs once all that they read is known.
+use Rattle.std.specs.Prelude.{◌≡◌, ℕ, true, false, not, ◌&&◌, nat_lt, List, ◌↔◌}
+use Rattle.std.specs.List.{list_any}
+use Rattle.calc_addr.specs.Places.{Place, Rows}
+use Rattle.calc_model.specs.Books.{Book}
+use Rattle.calc_model.specs.Results.{IsSound, Results, is_known, is_ready}
+use Rattle.calc_model.specs.Stale.{is_formula_cell}
+use Rattle.calc_model.specs.Touched.{CellSet}
+use Rattle.run_unions.specs.Unions.{is_in}
+use Rattle.dirty_spread.specs.Waves.{Problem, has, is_done}
+
+-- the cells of runs
+abbrev pub is_in_any : List Rows → CellSet
+is_in_any runs q = list_any (is_in q) runs
+
+-- each of the cells holds a formula, and all that it reads is known
+pub record AreReady (book : Book) (results : Results) (cells : CellSet) : Type 0 where
+  pub formula : (q : Place) → cells q ≡ true → is_formula_cell book q ≡ true
+  pub ready : (q : Place) → cells q ≡ true → is_ready book results q ≡ true
+
+-- the results are right, and each of the cells has one
+pub record AreEvaluated (book : Book) (results : Results) (cells : CellSet) : Type 0 where
+  pub sound : IsSound book results
+  pub known : (q : Place) → cells q ≡ true → is_known book results q ≡ true
+
+-- the other cells have the results that they had
+abbrev pub KeepsOthers : CellSet → Results → Results → Type 0
+KeepsOthers cells old new = (q : Place) → cells q ≡ false → new q ≡ old q
+
+-- Before the wave of a number the results are right; of the stale cells those that are done have one, and of the others
+-- all that are in no circle.
+pub record AreBefore (book : Book) (problem : Problem) (k : ℕ) (results : Results) : Type 0 where
+  pub sound : IsSound book results
+  pub stale : (q : Place) → has problem.stale q ≡ true → is_known book results q ≡ is_done problem k q
+  pub others : (q : Place) → has problem.stale q ≡ false → is_known book results q ≡ not (problem.circular q)
