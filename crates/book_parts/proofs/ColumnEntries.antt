@@ -1,5 +1,5 @@
 -- Columns of the generated book, put in cell by cell.
-use Rattle.std.proofs.Common.{◌≡◌, ◌≤◌, ◌<◌, ◌+◌, ◌-◌, ℕ, suc, List, [], ◌∷◌, map, ap, arith}
+use Rattle.std.proofs.Common.{◌≡◌, ◌<◌, ◌+◌, ◌-◌, ℕ, suc, List, ◌∷◌, map, ap, arith}
 use Rattle.std.specs.List.{range_with_len}
 use Rattle.calc_model.specs.CellEdits.{CellEntries}
 use Rattle.book_parts.specs.declared.generated.GeneratedColumn.{GeneratedColumn}

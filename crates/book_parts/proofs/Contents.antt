@@ -1,5 +1,5 @@
 -- A book of cells without names, and one with them.
-use Rattle.std.proofs.Common.{◌≡◌, Option, None, Some, refl, arith}
+use Rattle.std.proofs.Common.{◌≡◌, Option, None, Some, refl}
 use Rattle.std.specs.Option.{IfSome}
 use Rattle.calc_addr.specs.Places.{Place}
 use Rattle.calc_model.specs.Books.{Book, IsBook, NameEntries, content_at}

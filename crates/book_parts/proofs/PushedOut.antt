@@ -1,6 +1,6 @@
 -- Cells that inserted rows push out of the sheet.
-use Rattle.std.proofs.Common.{◌≡◌, ℕ, suc, ◌+◌, ◌-◌, ◌≤◌, ◌||◌, nat_lt, max, Bool, true, false, cond, [], ◌∷◌, length, refl, sym, ap, ◌∙◌, arith}
-use Rattle.std.specs.List.{list_all, list_any}
+use Rattle.std.proofs.Common.{◌≡◌, ℕ, suc, ◌+◌, ◌-◌, ◌||◌, nat_lt, max, true, false, cond, [], ◌∷◌, length, refl, ap, ◌∙◌, arith}
+use Rattle.std.specs.List.{list_all}
 use Rattle.std.proofs.lemmas.Bool.Decides.{nat_tests}
 use Rattle.calc_addr.specs.declared.cell.TheConstants.{LAST_COL, LAST_ROW}
 use Rattle.calc_addr.specs.Places.{IsPlace, Place, Rectangle, covers}

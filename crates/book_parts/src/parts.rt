@@ -1,7 +1,7 @@
-ghost use Rattle.std.specs.Prelude.{◌≡◌, ◌≤◌, ◌<◌, ◌+◌, ◌-◌, ◌↔◌, nat_le, [], false, true, length, IfNone, IfOk, IfSome, IsErrOf, IsTrue, OnOk, OnErr, map};
-ghost use Rattle.std.specs.List.{All, list_all};
+ghost use Rattle.std.specs.Prelude.{◌≡◌, ◌≤◌, ◌<◌, ◌+◌, ◌-◌, ◌↔◌, nat_le, [], false, true, length, IfNone, IfOk, IfSome, IsErrOf, IsTrue, OnOk, OnErr, Contains, map};
+ghost use Rattle.std.specs.List.{All, AllPairs, list_all};
 ghost use Rattle.calc_model.specs.Books.{IsBook, content_at, formula_count, is_formula, is_held, with_content};
-ghost use Rattle.calc_addr.specs.Places.{places};
+ghost use Rattle.calc_addr.specs.Places.{IsBefore, Place, places};
 ghost use Rattle.calc_addr.specs.ValidReferences.{is_rectangle};
 ghost use Rattle.calc_model.specs.CellEdits.{after_copy, after_fill, area_at, moved_content, with_entries, without_area};
 ghost use Rattle.calc_model.specs.Changes.{IsShift};
@@ -25,6 +25,7 @@ use calc_addr::{Area, Cell, LAST_ROW, LAST_SHEET, NoMemory};
 use calc_model::{Content, Looked, MOST_CELLS, MOST_GENERATED_ROWS, NameTable, Text};
 use calc_names::{NameFault, Names};
 use cell_columns::{CellColumns, Coded, CodedGroups};
+use cell_runs::CellRuns;
 use formula_groups::Group;
 use std::alloc::Global;
 use std::marker::Model;
@@ -444,6 +445,16 @@ impl BookParts {
         ensures formulas { AreFormulasOf result.codes.now (columns_of result.groups.now) self.now }
     {
         self.cells.coded()
+    }
+
+    /// The cells that hold a formula, in the order of cells, a run for each group. Linear in the groups and in
+    /// the columns.
+    pub fn formula_cells(&self, alloc: Global) -> Result<CellRuns, NoMemory>
+        ensures in_order { IfOk result (λ cells. AllPairs IsBefore cells) }
+        ensures exact { IfOk result (λ cells. (q : Place) → Contains cells q
+            ↔ (is_formula (content_at self.now q) ≡ true)) }
+    {
+        self.cells.formula_cells(alloc)
     }
 
     /// How many cells hold a formula. Linear in the blocks.

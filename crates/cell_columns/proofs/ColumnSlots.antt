@@ -1,9 +1,6 @@
 -- The slots of a column have what its cells hold.
-use Rattle.std.proofs.Common.{◌≡◌, ℕ, ◌-◌, ◌≤◌, List, refl, ap, sym, subst, arith}
-use Rattle.std.specs.Prelude.{slice_index_or}
-use Rattle.calc_addr.specs.declared.cell.TheConstants.{LAST_ROW}
+use Rattle.std.proofs.Common.{ℕ, List, refl, sym, subst}
 use Rattle.calc_addr.specs.Places.{IsPlace, Place}
-use Rattle.calc_model.specs.declared.content.Content.{Content}
 use Rattle.formula_code.specs.Codes.{Codes, tree_at}
 use Rattle.block_column.specs.declared.slot.Slot.{Slot}
 use Rattle.block_column.specs.declared.slot.Slot.TheVariants as slot

@@ -16,6 +16,7 @@
 -- Clearing: a column that is emptied between two rows, with its groups and codes.
 -- Walks: the cells of some rows of columns. Filled: rows that hold something.
 -- CountsMore: cells of an area that are counted and listed.
+-- FormulaRows: the cells of groups and of rows with codes. FormulaPlaces: they are those that hold formulas.
 -- Looked: what is lent of a cell's content.
 -- Listed: cells that are listed with what they hold.
 -- Told: the cells of columns are those of a book, which slots decide.
@@ -46,6 +47,8 @@ pub mod Clearing
 pub mod Walks
 pub mod Filled
 pub mod CountsMore
+pub mod FormulaRows
+pub mod FormulaPlaces
 pub mod Looked
 pub mod Listed
 pub mod RunRows

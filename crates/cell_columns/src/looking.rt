@@ -1,6 +1,8 @@
 //! What cells hold, lent, and the cells that aren't empty.
-ghost use Rattle.std.specs.Prelude.{◌≡◌, ◌≤◌, ◌+◌, ◌-◌, false, length, IfNone, IfOk, IfSome};
+ghost use Rattle.std.specs.Prelude.{◌≡◌, ◌≤◌, ◌+◌, ◌-◌, ◌↔◌, Contains, false, true, length, IfNone, IfOk, IfSome};
+ghost use Rattle.std.specs.List.{AllPairs};
 ghost use Rattle.calc_addr.specs.declared.cell.TheConstants.{LAST_ROW};
+ghost use Rattle.calc_addr.specs.Places.{IsBefore, Place};
 ghost use Rattle.calc_model.specs.Books.{IsBook, content_at, is_formula};
 ghost use Rattle.calc_model.specs.CellEdits.{within_area};
 ghost use Rattle.cell_columns.specs.Cells.{cells_only};
@@ -10,11 +12,13 @@ ghost use Rattle.cell_columns.specs.Walks.{formulas_of, places_of};
 use crate::cells::numbers_of;
 use crate::columns::CellColumns;
 use crate::counting::{all_formulas, count_cells};
+use crate::formulas::grouped_cells;
 use crate::reading::slot_ref;
 use crate::walking::{empty_below, push_cells};
 use block_column::SlotRef;
 use calc_addr::{Area, Cell, LAST_ROW, NoMemory};
 use calc_model::{CodeId, Content};
+use cell_runs::CellRuns;
 use formula_code::CodeTable;
 use kept_codes::COLUMNS;
 use std::alloc::Global;
@@ -65,6 +69,16 @@ impl CellColumns {
         ensures empty { AreEmptyBelow self.now start result }
     {
         empty_below(&self.columns, start, last_row)
+    }
+
+    /// The cells that hold a formula, in the order of cells, a run for each group. Linear in the groups and in
+    /// the columns.
+    pub fn formula_cells(&self, alloc: Global) -> Result<CellRuns, NoMemory>
+        ensures in_order { IfOk result (λ cells. AllPairs IsBefore cells) }
+        ensures exact { IfOk result (λ cells. (q : Place) → Contains cells q
+            ↔ (is_formula (content_at (cells_only self.now) q) ≡ true)) }
+    {
+        grouped_cells(alloc, &self.groups)
     }
 
     /// How many cells of an area aren't empty. Linear in the blocks of its columns.

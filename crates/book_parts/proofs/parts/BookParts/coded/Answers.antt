@@ -1,5 +1,5 @@
 use Rattle.std.proofs.Common.{ap, sym, subst, ◌∙◌}
-use Rattle.calc_model.specs.Books.{Book, content_at}
+use Rattle.calc_model.specs.Books.{Book}
 use Rattle.formula_code.specs.Coded.{AreFormulasOf, formula_in}
 use Rattle.formula_groups.specs.GroupRows.{columns_of}
 use Rattle.book_parts.proofs.Contents.{same_content}

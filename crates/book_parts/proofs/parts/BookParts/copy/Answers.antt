@@ -1,10 +1,9 @@
-use Rattle.std.proofs.Common.{◌≡◌, ◌≤◌, true, length, map, sym, ap, subst, ◌∙◌, arith}
+use Rattle.std.proofs.Common.{◌≡◌, true, length, map, sym, ap, subst, ◌∙◌, arith}
 use Rattle.std.specs.List.{list_all}
 use Rattle.std.proofs.lemmas.List.{length-map}
 use Rattle.std.proofs.lemmas.Result.{on_ok_weaker}
-use Rattle.calc_model.specs.declared.limits.TheConstants.{MOST_CELLS}
 use Rattle.calc_model.specs.Books.{Book, is_held}
-use Rattle.calc_model.specs.CellEdits.{CellEntries, after_copy, area_at, copied_entry, with_entries, within_area, without_area}
+use Rattle.calc_model.specs.CellEdits.{CellEntries, area_at, copied_entry, with_entries, within_area, without_area}
 use Rattle.book_parts.proofs.Copied.{copied_held, copy_is, length-copy}
 use Rattle.book_parts.proofs.parts.BookParts.copy.Goals as goal
 

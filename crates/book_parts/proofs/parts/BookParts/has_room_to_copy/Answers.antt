@@ -1,4 +1,4 @@
-use Rattle.std.proofs.Common.{◌≡◌, ◌+◌, ◌-◌, nat_le, length, sym, ap, ◌∙◌, arith}
+use Rattle.std.proofs.Common.{◌≡◌, ◌+◌, ◌-◌, nat_le, length, ap, ◌∙◌, arith}
 use Rattle.calc_addr.specs.Places.{Rectangle, covers}
 use Rattle.calc_model.specs.Books.{Book}
 use Rattle.calc_model.specs.CellEdits.{CellEntries, after_copy, area_at, within_area}

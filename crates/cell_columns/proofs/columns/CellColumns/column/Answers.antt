@@ -1,5 +1,4 @@
-use Rattle.std.proofs.Common.{◌≡◌, ◌∙◌, ◌<◌, List, [], length, ap, sym, subst, arith}
-use Rattle.std.specs.Prelude.{slice_index_or}
+use Rattle.std.proofs.Common.{◌≡◌, ◌∙◌, ◌<◌, [], length, ap, sym, subst, arith}
 use Rattle.calc_model.specs.CellEdits.{CellEntries}
 use Rattle.block_column.specs.SlotRows.{SlotRows}
 use Rattle.cell_columns.specs.Cells.{Column, cells_only, column_at}
