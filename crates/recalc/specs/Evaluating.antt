@@ -1,17 +1,11 @@
 -- Results of formulas on the way to those of all: some cells get theirs once all that they read is known.
-use Rattle.std.specs.Prelude.{◌≡◌, ℕ, true, false, not, ◌&&◌, nat_lt, List, ◌↔◌}
-use Rattle.std.specs.List.{list_any}
-use Rattle.calc_addr.specs.Places.{Place, Rows}
+use Rattle.std.specs.Prelude.{◌≡◌, ℕ, true, false, not}
+use Rattle.calc_addr.specs.Places.{Place}
 use Rattle.calc_model.specs.Books.{Book}
 use Rattle.calc_model.specs.Results.{IsSound, Results, is_known, is_ready}
 use Rattle.calc_model.specs.Stale.{is_formula_cell}
 use Rattle.calc_model.specs.Touched.{CellSet}
-use Rattle.run_unions.specs.Unions.{is_in}
 use Rattle.dirty_spread.specs.Waves.{Problem, has, is_done}
-
--- the cells of runs
-abbrev pub is_in_any : List Rows → CellSet
-is_in_any runs q = list_any (is_in q) runs
 
 -- each of the cells holds a formula, and all that it reads is known
 pub record AreReady (book : Book) (results : Results) (cells : CellSet) : Type 0 where

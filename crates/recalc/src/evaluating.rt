@@ -5,7 +5,8 @@ ghost use Rattle.calc_addr.specs.Places.{Place, place_cmp};
 ghost use Rattle.calc_model.specs.Results.{IsSound};
 ghost use Rattle.formula_results.specs.Results.{results_of};
 ghost use Rattle.run_unions.specs.Unions.{is_in};
-ghost use Rattle.recalc.specs.Evaluating.{AreEvaluated, AreReady, KeepsOthers, is_in_any};
+ghost use Rattle.dirty_spread.specs.Marking.{is_in_any};
+ghost use Rattle.recalc.specs.Evaluating.{AreEvaluated, AreReady, KeepsOthers};
 
 use crate::value::value_of;
 use book_parts::BookParts;
@@ -70,10 +71,10 @@ pub(crate) fn evaluate_runs(
     results: &mut FormulaResults,
 ) -> Result<(), NoMemory>
     requires sound { IsSound parts.now (results_of results.old) }
-    requires ready { AreReady parts.now (results_of results.old) (is_in_any runs.now) }
+    requires ready { AreReady parts.now (results_of results.old) (λ q. is_in_any q runs.now) }
     ensures done { OnOk result
-        (AreEvaluated parts.now (results_of results.new) (is_in_any runs.now)) }
-    ensures others { KeepsOthers (is_in_any runs.now)
+        (AreEvaluated parts.now (results_of results.new) (λ q. is_in_any q runs.now)) }
+    ensures others { KeepsOthers (λ q. is_in_any q runs.now)
         (results_of results.old) (results_of results.new) }
 {
     for run in runs {

@@ -3,7 +3,7 @@
 
 mod evaluating;
 mod recalculating;
+mod stored;
 mod value;
-mod waves;
 
-pub use recalculating::recalculate;
+pub use stored::StoredResults;

@@ -1,0 +1,187 @@
+-- Results that come to cells, and what they leave as it was.
+use Rattle.std.proofs.Common.{◌≡◌, ◌≤◌, ◌<◌, ℕ, zero, suc, ◌+◌, nat_le, nat_lt, arith, List, [], ◌∷◌, take, length, get_or, Bool, true, false, not, ◌||◌, ◌&&◌, Option, Some, None, cond, Result, Ok, Err, refl, sym, ap, subst, ◌∙◌, ⊎_elim}
+use Rattle.std.specs.Prelude.{OnOk, OnErr, is_some}
+use Rattle.std.specs.Ordering.{eq_by_cmp}
+use Rattle.std.specs.Prelude.{◌==◌}
+use Rattle.std.proofs.lemmas.Bool.{cases_Bool, false≢true, or_cases}
+use Rattle.std.proofs.lemmas.Bool.Decides.{nat_tests}
+use Rattle.calc_addr.specs.Places.{Place, Rows, place_cmp}
+use Rattle.run_unions.specs.Unions.{is_in}
+use Rattle.std.proofs.lemmas.List.Folds.{list_any_more}
+use Rattle.dirty_spread.specs.Marking.{is_in_any}
+use Rattle.dirty_spread.proofs.Stepping.{lies}
+use Rattle.calc_model.proofs.Areas.{both_true}
+use Rattle.calc_model.specs.declared.value.Value.{Value}
+use Rattle.calc_model.specs.declared.tree.Tree.{Tree}
+use Rattle.calc_model.specs.declared.content.Content.TheVariants.{Formula}
+use Rattle.calc_model.specs.Books.{Book, area_named, content_at, is_formula}
+use Rattle.calc_model.specs.Eval.{eval, top}
+use Rattle.calc_model.specs.Reads.{reads}
+use Rattle.calc_model.specs.Results.{IsSound, Results, Sets, is_known, is_ready, shown_by}
+use Rattle.calc_model.specs.Stale.{is_formula_cell}
+use Rattle.calc_model.specs.Touched.{CellSet}
+use Rattle.calc_model.proofs.Knowing.{sound_with}
+use Rattle.calc_model.proofs.Places.{same_places}
+use Rattle.calc_model.proofs.Reached.{or_true, same_cell}
+use Rattle.calc_model.proofs.Rounds.{all_cells_more}
+use Rattle.recalc.specs.Evaluating.{AreEvaluated, AreReady, KeepsOthers}
+
+-- tests that pass together are the same
+pub alike : (a b : Bool) → (a ≡ true → b ≡ true) → (b ≡ true → a ≡ true) → a ≡ b
+alike true b to from = sym (to refl)
+alike false true to from = from refl
+alike false false to from = refl
+
+-- the cell alone
+abbrev pub only : Place → CellSet
+only cell = eq_by_cmp place_cmp cell
+
+pub sets_others : (old new : Results) (cell : Place) (value : Value) → Sets old new cell value → KeepsOthers (only cell) old new
+sets_others old new cell value sets q apart = sets q ∙ ap (λ b. cond b (Some value) (old q)) apart
+
+module _ (book : Book) where
+  known_with : (new : Results) (q : Place) (value : Value) → new q ≡ Some value → is_known book new q ≡ true
+  known_with new q value is = ap (λ o. not (is_formula (content_at book q)) || is_some o) is ∙ or_true (not (is_formula (content_at book q)))
+
+  pub known_kept : (old new : Results) (q : Place) → new q ≡ old q → is_known book new q ≡ is_known book old q
+  known_kept old new q same = ap (λ o. not (is_formula (content_at book q)) || is_some o) same
+
+  pub evaluated_one : (old new : Results) (cell : Place) (tree : Tree) → content_at book cell ≡ Formula tree → IsSound book old → is_ready book old cell ≡ true → Sets old new cell (top (eval cell (area_named book) (shown_by book old) tree)) → AreEvaluated book new (only cell)
+  evaluated_one old new cell tree at sound ready sets = record {
+    sound = sound_with book old sound new cell tree at ready sets;
+    known = λ q tied. known_with new q (top (eval cell (area_named book) (shown_by book old) tree)) (sets q ∙ ap (λ b. cond b (Some (top (eval cell (area_named book) (shown_by book old) tree))) (old q)) tied);
+  }
+
+  -- what was known stays so
+  pub stays_known : (old new : Results) (cells : CellSet) → KeepsOthers cells old new → ((q : Place) → cells q ≡ true → is_known book new q ≡ true) → (q : Place) → is_known book old q ≡ true → is_known book new q ≡ true
+  stays_known old new cells kept all q h = ⊎_elim (λ (e : cells q ≡ true). all q e) (λ (e : cells q ≡ false). known_kept old new q (kept q e) ∙ h) (cases_Bool (cells q))
+
+  pub stays_ready : (old new : Results) (cells done : CellSet) → KeepsOthers done old new → ((q : Place) → done q ≡ true → is_known book new q ≡ true) → AreReady book old cells → AreReady book new cells
+  stays_ready old new cells done kept all ready = record {
+    formula = ready.formula;
+    ready = λ q h. all_cells_more (is_known book old) (is_known book new) (stays_known old new done kept all) (reads book q) (ready.ready q h);
+  }
+
+-- cells that are left by both steps are left by both together
+pub kept_then : (first now new : Results) (done one all : CellSet) → KeepsOthers done first now → KeepsOthers one now new → ((q : Place) → all q ≡ false → (done q ≡ false) × (one q ≡ false)) → KeepsOthers all first new
+kept_then first now new done one all kept after apart q h = after q (apart q h).1 ∙ kept q (apart q h).0
+
+pub neither_of : (a b : Bool) → (a || b) ≡ false → (a ≡ false) × (b ≡ false)
+neither_of true b h = absurd (false≢true (sym h))
+neither_of false b h = (refl, h)
+
+module _ (book : Book) where
+  pub ready_part : (results : Results) (cells part : CellSet) → AreReady book results cells → ((q : Place) → part q ≡ true → cells q ≡ true) → AreReady book results part
+  ready_part results cells part ready inside = record { formula = λ q h. ready.formula q (inside q h); ready = λ q h. ready.ready q (inside q h) }
+
+  -- some cells are evaluated, and the others are as at first
+  pub record IsOnWay (first now : Results) (done : CellSet) : Type 0 where
+    pub evaluated : AreEvaluated book now done
+    pub left : KeepsOthers done first now
+
+  pub on_way_start : (first : Results) (done : CellSet) → IsSound book first → ((q : Place) → done q ≡ false) → IsOnWay first first done
+  on_way_start first done sound none = record { evaluated = record { sound = sound; known = λ q h. absurd (false≢true (sym (none q) ∙ h)) }; left = λ q h. refl }
+
+  pub on_way_more : (first now new : Results) (done one more : CellSet) → IsOnWay first now done → AreEvaluated book new one → KeepsOthers one now new → ((q : Place) → more q ≡ (done q || one q)) → IsOnWay first new more
+  on_way_more first now new done one more way evaluated kept is = record {
+    evaluated = record {
+      sound = evaluated.sound;
+      known = λ q h. ⊎_elim (λ (e : one q ≡ true). evaluated.known q e)
+          (λ (e : one q ≡ false). known_kept book now new q (kept q e) ∙ way.evaluated.known q (first_of (done q) (one q) e (sym (is q) ∙ h))) (cases_Bool (one q));
+    };
+    left = kept_then first now new done one more way.left kept (λ q h. neither_of (done q) (one q) (sym (is q) ∙ h));
+  }
+    where
+      first_of : (a b : Bool) → b ≡ false → (a || b) ≡ true → a ≡ true
+      first_of true b e h = refl
+      first_of false b e h = absurd (false≢true (sym e ∙ h))
+
+  pub on_way_as : (first now : Results) (done all : CellSet) → IsOnWay first now done → ((q : Place) → all q ≡ done q) → IsOnWay first now all
+  on_way_as first now done all way same = record {
+    evaluated = record { sound = way.evaluated.sound; known = λ q h. way.evaluated.known q (sym (same q) ∙ h) };
+    left = λ q h. way.left q (sym (same q) ∙ h);
+  }
+
+  -- a part of ready cells is still ready on the way
+  pub ready_on_way : (first now : Results) (done cells part : CellSet) → IsOnWay first now done → AreReady book first cells → ((q : Place) → part q ≡ true → cells q ≡ true) → AreReady book now part
+  ready_on_way first now done cells part way ready inside =
+      ready_part now cells part (stays_ready book first now cells done way.left way.evaluated.known ready) inside
+
+-- the rows of a run before one
+abbrev pub front : Rows → ℕ → CellSet
+front run row q = is_in q run && nat_lt q.row row
+
+abbrev pub row_of : Rows → ℕ → Place
+row_of run row = record { sheet = run.sheet; col = run.col; row = row }
+
+pub no_front : (run : Rows) (q : Place) → front run run.first q ≡ false
+no_front run q = cases_so (front run run.first q) (λ h. grind (arith, nat_tests))
+  where
+    cases_so : (b : Bool) → (b ≡ true → b ≡ false) → b ≡ false
+    cases_so true f = f refl
+    cases_so false f = refl
+
+pub whole_front : (run : Rows) (row : ℕ) (q : Place) → run.last < row → is_in q run ≡ front run row q
+whole_front run row q h = alike (is_in q run) (front run row q) (λ e. grind (arith, nat_tests)) (λ e. grind (arith, nat_tests))
+
+pub only_is : (run : Rows) (row : ℕ) (q : Place) → only (row_of run row) q ≡ true → q ≡ row_of run row
+only_is run row q h = sym (same_places (row_of run row) q h)
+
+pub row_inside : (run : Rows) (row : ℕ) → run.first ≤ row → row ≤ run.last → is_in (row_of run row) run ≡ true
+row_inside run row from to = grind (arith, nat_tests)
+
+pub only_inside : (run : Rows) (row : ℕ) → run.first ≤ row → row ≤ run.last → (q : Place) → only (row_of run row) q ≡ true → is_in q run ≡ true
+only_inside run row from to q h = subst (λ (p : Place). is_in p run ≡ true) (sym (only_is run row q h)) (row_inside run row from to)
+
+pub next_front : (run : Rows) (row : ℕ) (q : Place) → run.first ≤ row → row ≤ run.last → front run (row + 1) q ≡ (front run row q || only (row_of run row) q)
+next_front run row q from to = alike (front run (row + 1) q) (front run row q || only (row_of run row) q) there back
+  where
+    same_cells : (p q : Place) → p.sheet ≡ q.sheet → p.col ≡ q.col → p.row ≡ q.row → p ≡ q
+    same_cells p q s c r = ap (λ s. record { sheet = s; col = p.col; row = p.row }) s ∙ ap (λ c. record { sheet = q.sheet; col = c; row = p.row }) c ∙ ap (λ r. record { sheet = q.sheet; col = q.col; row = r }) r
+    at_row : (q : Place) → is_in q run ≡ true → q.row ≡ row → q ≡ row_of run row
+    at_row q h e =
+        let l = lies run q h in
+        same_cells q (row_of run row) l.sheet l.col e
+    there : front run (row + 1) q ≡ true → (front run row q || only (row_of run row) q) ≡ true
+    there h =
+        let parts = both_true (is_in q run) (nat_lt q.row (row + 1)) h in
+        ⊎_elim (λ (e : nat_lt q.row row ≡ true). ap (λ b. b || only (row_of run row) q) (ap (λ b. b && nat_lt q.row row) parts.0 ∙ e))
+        (λ (e : nat_lt q.row row ≡ false).
+        let same : q.row ≡ row = grind (arith, nat_tests) in
+        ap (λ b. front run row q || b) (subst (λ (p : Place). only (row_of run row) p ≡ true) (sym (at_row q parts.0 same)) (same_cell (row_of run row))) ∙ or_true (front run row q))
+        (cases_Bool (nat_lt q.row row))
+    back : (front run row q || only (row_of run row) q) ≡ true → front run (row + 1) q ≡ true
+    back h = ⊎_elim (λ (e : front run row q ≡ true). grind (arith, nat_tests))
+        (λ (e : only (row_of run row) q ≡ true). 
+        let inside : is_in q run ≡ true = only_inside run row from to q e in
+        let at : q.row ≡ row = ap (λ (p : Place). p.row) (only_is run row q e) in
+        grind (arith, nat_tests))
+        (or_cases (front run row q) (only (row_of run row) q) h)
+
+part_in_any : (runs : List Rows) (i : ℕ) (q : Place) → is_in_any q (take i runs) ≡ true → is_in_any q runs ≡ true
+part_in_any runs zero q h = absurd (false≢true h)
+part_in_any [] (suc i) q h = h
+part_in_any (r ∷ rs) (suc i) q h = ⊎_elim (λ (e : is_in q r ≡ true). ap (λ b. b || is_in_any q rs) e)
+    (λ (e : is_in_any q (take i rs) ≡ true). ap (λ b. is_in q r || b) (part_in_any rs i q e) ∙ or_true (is_in q r)) (or_cases (is_in q r) (is_in_any q (take i rs)) h)
+
+-- the cells of a run are those of the list that has it
+pub item_in_any : (runs : List Rows) (i : ℕ) (run : Rows) → i < length runs → run ≡ get_or runs i run → (q : Place) → is_in q run ≡ true → is_in_any q runs ≡ true
+item_in_any runs i run within is q h =
+    part_in_any runs (i + 1) q (list_any_more (is_in q) runs i run within ∙ ap (λ (r : Rows). is_in_any q (take i runs) || is_in q r) (sym is) ∙ ap (λ b. is_in_any q (take i runs) || b) h ∙ or_true (is_in_any q (take i runs)))
+
+pub none_in_part : (runs : List Rows) (i : ℕ) (run : Rows) → i < length runs → run ≡ get_or runs i run → (q : Place) → is_in_any q runs ≡ false → (is_in_any q (take i runs) ≡ false) × (is_in q run ≡ false)
+none_in_part runs i run within is q none = (
+  no (is_in_any q (take i runs)) (λ h. absurd (false≢true (sym none ∙ part_in_any runs i q h))),
+  no (is_in q run) (λ h. absurd (false≢true (sym none ∙ item_in_any runs i run within is q h))),
+)
+  where
+    no : (b : Bool) → (b ≡ true → b ≡ false) → b ≡ false
+    no true f = f refl
+    no false f = refl
+
+-- the same of cells that are said otherwise
+pub as_ready : (book : Book) (results : Results) (cells other : CellSet) → ((q : Place) → cells q ≡ other q) → AreReady book results cells → AreReady book results other
+as_ready book results cells other same ready = record { formula = λ q h. ready.formula q (same q ∙ h); ready = λ q h. ready.ready q (same q ∙ h) }
+
+pub as_evaluated : (book : Book) (results : Results) (cells other : CellSet) → ((q : Place) → cells q ≡ other q) → AreEvaluated book results cells → AreEvaluated book results other
+as_evaluated book results cells other same evaluated = record { sound = evaluated.sound; known = λ q h. evaluated.known q (same q ∙ h) }
