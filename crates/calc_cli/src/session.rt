@@ -6,7 +6,7 @@ ghost use Rattle.calc_cli.specs.Sessions.{session_of};
 ghost use Rattle.calc_model.specs.Stale.{count_in};
 ghost use Rattle.calc_model.specs.Val.{val};
 ghost use Rattle.calc_watch.specs.Reports.{described};
-ghost use Rattle.workbook.specs.Workbook.{stale_of, values_of};
+ghost use Rattle.workbook.specs.Workbook.{IsFresh, stale_of, values_of};
 
 use calc_addr::{Area, NoMemory};
 use calc_watch::{Desktop, Watcher};
@@ -40,13 +40,16 @@ impl<W: Watcher> Model for Session<W> {
       stock = length s.stock.items;
     } };
 
-    ghost invariant = { λ s. All (λ w. W.told w ≡ []) s.stock.items };
+    ghost use Rattle.workbook.specs.Workbook.{IsFresh};
+
+    ghost invariant = { λ s. IsFresh s.workbook × All (λ w. W.told w ≡ []) s.stock.items };
 }
 
 impl<W: Watcher> Session<W> {
     /// A workbook with no watcher attached.
     pub(crate) fn new(alloc: Global, workbook: Workbook, stock: Vec<W>) -> Session<W>
-        requires { All (λ w. W.told w ≡ []) stock.items }
+        requires fresh { IsFresh workbook }
+        requires told { All (λ w. W.told w ≡ []) stock.items }
         ensures workbook { result.workbook ≡ workbook }
         ensures watchers { result.watchers ≡ [] }
         ensures stock { result.stock ≡ length stock.items }

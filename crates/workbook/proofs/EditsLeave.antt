@@ -1,7 +1,7 @@
 -- An edit that is made leaves the cells that it doesn't touch, whichever edit it is.
-use Rattle.std.proofs.Common.{◌≡◌, ℕ, Bool, true, false, ◌||◌, not, cond, List, Some, Result, Ok, Err, refl, sym, ap, ◌∙◌}
+use Rattle.std.proofs.Common.{◌≡◌, ℕ, Bool, true, false, ◌||◌, not, cond, List, Some, Result, Ok, Err, refl, sym, ap, subst, ◌∙◌}
 use Rattle.std.specs.List.{list_any}
-use Rattle.std.specs.Prelude.{OnOk}
+use Rattle.std.specs.Prelude.{IsErrOf, OnOk}
 use Rattle.std.specs.Str.{str_to_ascii_uppercase}
 use Rattle.calc_addr.specs.Places.{Place, Rectangle, covers}
 use Rattle.calc_addr.specs.Shifts.{area_after_deletion, area_after_insertion}
@@ -21,9 +21,11 @@ use Rattle.calc_model.specs.UsedNames.{is_same_name}
 use Rattle.calc_model.proofs.EntriesFound.{find-insert_entry, find-remove_entry}
 use Rattle.calc_model.proofs.NamedReads.{deleted_reads, exact_names, inserted_reads, named_reads, unnamed_reads}
 use Rattle.calc_model.proofs.ShiftedReads.{deletion_goes, insertion_goes, neither}
-use Rattle.workbook.specs.Workbook.{IsFresh, Made, State, WasBook}
+use Rattle.workbook.specs.declared.fault.EditFault.{EditFault}
+use Rattle.workbook.specs.declared.fault.EditFault.TheVariants as fault
+use Rattle.workbook.specs.Workbook.{AfterNoMemory, IsFresh, IsRefused, Made, State, WasBook, mended, stale_of}
 use Rattle.book_parts.proofs.LeftCells.{clear_leaves, copy_leaves, fill_leaves, set_leaves}
-use Rattle.workbook.proofs.Fresh.{Leaves, still_fresh}
+use Rattle.workbook.proofs.Fresh.{Leaves, fresh_when_stale, still_fresh}
 use Rattle.workbook.proofs.Leavings.{cells_leave, name_leaves, others_shifted, rows_leave}
 use Rattle.workbook.proofs.RowChanges.{above_rows, deletion_leaves, formula_place, insertion_leaves, origin_deleted, origin_inserted}
 
@@ -108,7 +110,24 @@ module _ (before after : Book) (is : IsBook after) where
     stays = λ q formula apart. cc;
   }
 
--- an edit that is made leaves a workbook fresh
-pub edit_fresh : {T E : Type 0} (result : Result T E) (before after : State) (edit : Edit) → OnOk result (WasBook before.book edit) → OnOk result (Made before edit after) → IsFresh before → OnOk result (IsFresh after)
-edit_fresh (Ok x) before after edit was made fresh = still_fresh before after edit (leaves_of before.book after.book made.book edit was made.step) made fresh
-edit_fresh (Err e) before after edit was made fresh = tt
+-- want of memory leaves a workbook fresh
+pub no_memory_fresh : (before after : State) (edit : Edit) → AfterNoMemory before edit after → IsFresh before → IsFresh after
+unfolding stale_of
+no_memory_fresh before after (Set cell content) same fresh = subst IsFresh (sym same) fresh
+no_memory_fresh before after (Clear area) same fresh = subst IsFresh (sym same) fresh
+no_memory_fresh before after (Copy area to) dead fresh = fresh_when_stale after dead.stale
+no_memory_fresh before after (Fill from area) dead fresh = fresh_when_stale after dead.stale
+no_memory_fresh before after (InsertRows sheet place count) dead fresh = fresh_when_stale after dead.stale
+no_memory_fresh before after (DeleteRows sheet place count) dead fresh = fresh_when_stale after dead.stale
+no_memory_fresh before after (Name name area) dead fresh = fresh_when_stale after dead.stale
+no_memory_fresh before after (Unname name) dead fresh = fresh_when_stale after dead.stale
+no_memory_fresh before after (Make start rows) dead fresh = fresh_when_stale after dead.stale
+
+-- an edit, made or refused, leaves a workbook fresh
+pub edit_fresh : {T : Type 0} (result : Result T EditFault) (before after : State) (edit : Edit) → OnOk result (WasBook before.book edit) → OnOk result (Made before edit after) → ((cause : EditCause) → IsErrOf result (fault.Refused cause) → IsRefused (mended before) edit cause after) → (IsErrOf result fault.NoMemory → AfterNoMemory before edit after) → (IsErrOf result fault.Dead → ⊥) → IsFresh before → IsFresh after
+unfolding stale_of
+edit_fresh (Ok x) before after edit was made refused no_memory dead fresh = still_fresh before after edit (leaves_of before.book after.book made.book edit was made.step) made fresh
+edit_fresh (Err (fault.Refused cause)) before after edit was made refused no_memory dead fresh = subst IsFresh (sym (refused cause refl).kept) fresh
+edit_fresh (Err fault.NoMemory) before after edit was made refused no_memory dead fresh = no_memory_fresh before after edit (no_memory refl) fresh
+edit_fresh (Err fault.Dead) before after edit was made refused no_memory dead fresh = absurd (dead refl)
+

@@ -2,8 +2,8 @@
 pub mod NamesIn
 -- sets of cells
 pub mod Sets
--- the formulas that reach a touched cell
-pub mod Reaching
+-- tests of cells, and lists of cells that are gone over
+pub mod Tests
 -- the book after an edit
 pub mod Steps
 -- which formulas are stale after an edit
@@ -24,3 +24,7 @@ pub mod Leavings
 pub mod EditsLeave
 -- a workbook whose hub was made anew
 pub mod Mended
+-- how many formulas are stale
+pub mod Counting
+-- what a recalculation takes and leaves
+pub mod Recalculating

@@ -19,7 +19,7 @@ use Rattle.calc_model.specs.Touched.{CellSet, users}
 use Rattle.calc_model.specs.UsedNames.{is_same_name, names_in, uses_name}
 use Rattle.calc_model.proofs.NamedReads.{exact_names, named_reads, unnamed_reads}
 use Rattle.calc_model.proofs.Reached.{or_true, reaches_at_all}
-use Rattle.plain_evaluator.proofs.Covered.{same_tests}
+use Rattle.workbook.proofs.Tests.{same_tests}
 use Rattle.workbook.specs.Touched.{has_name, is_touched, lies_in, uses_any}
 use Rattle.workbook.specs.Workbook.{Stales, State, stale_of}
 use Rattle.workbook.proofs.RowChanges.{reads_by_names}

@@ -9,6 +9,7 @@ use Rattle.std.specs.declared.cmp.Ordering.TheVariants.{Less, Equal, Greater}
 use Rattle.std.specs.FinMap.Entries.{find}
 use Rattle.std.proofs.lemmas.Bool.Decides.{nat_tests}
 use Rattle.std.proofs.lemmas.List.Elements.{recursion_from_All}
+use Rattle.std.proofs.lemmas.Bool.{false_from_ne_true}
 use Rattle.calc_addr.specs.Places.{Place, Rectangle, covers, place_cmp}
 use Rattle.calc_addr.specs.Shifts.{is_deleted, row_after_deletion, row_after_insertion}
 use Rattle.calc_model.specs.declared.tree.Tree.{Tree}
@@ -33,45 +34,13 @@ use Rattle.calc_model.proofs.ShiftedReads.{deletion_stays, insertion_stays}
 use Rattle.std.specs.BTreeMap.{is_at}
 use Rattle.std.proofs.lemmas.Map.Entries.{lookup-filter-keys}
 use Rattle.book_parts.proofs.Lookups.{find-lookup}
-use Rattle.plain_evaluator.specs.Plain.{AreReaders, IsReader}
-use Rattle.plain_evaluator.proofs.Covered.{same_tests}
-use Rattle.plain_evaluator.proofs.Formulas.{Reading}
+use Rattle.calc_model.specs.Listeners.{ReadAreas, listed}
+use Rattle.calc_model.specs.Reads.{reads}
+use Rattle.formula_listeners.specs.Held.{HoldsReads}
 use Rattle.calc_model.specs.declared.edit.Edit.TheVariants.{InsertRows, DeleteRows}
-use Rattle.workbook.specs.Readers.{is_reader_of}
 use Rattle.workbook.specs.Touched.{lies_in}
 use Rattle.workbook.specs.Workbook.{Stales, State}
 use Rattle.workbook.proofs.Staleness.{stale_moved}
-
--- the cells of the readers that pass a test are those that pass it, where formulas alone pass
-module _ (book : Book) (test : Place → Bool) (passes : Reading → Bool) (same : (r : Reading) → IsReader book r → passes r ≡ test r.0) (q : Place) where
-  abbrev is_one : Reading → Bool
-  is_one r = eq_by_cmp place_cmp r.0 q && passes r
-
-  to_test : (rs : List Reading) → AllByRecursion (IsReader book) rs → list_any is_one rs ≡ true → test q ≡ true
-  to_test [] each h = cc
-  to_test (r ∷ rs) each h =
-      elim (either (is_one r) (list_any is_one rs) h) [
-        | inl is ↦
-            let parts = both_true (eq_by_cmp place_cmp r.0 q) (passes r) is in
-            ap test (sym (same_places r.0 q parts.0)) ∙ sym (same r each.0) ∙ parts.1
-        | inr later ↦ to_test rs each.1 later
-      ]
-
-  from_test : (rs : List Reading) → AllByRecursion (IsReader book) rs → list_any (λ r. eq_by_cmp place_cmp q r.0) rs ≡ true → test q ≡ true → list_any is_one rs ≡ true
-  from_test [] each h passed = h
-  from_test (r ∷ rs) each h passed =
-      elim (either (eq_by_cmp place_cmp q r.0) (list_any (λ r. eq_by_cmp place_cmp q r.0) rs) h) [
-        | inl is ↦
-            let at : q ≡ r.0 = same_places q r.0 is in
-            let here : eq_by_cmp place_cmp r.0 q ≡ true = subst (λ p. eq_by_cmp place_cmp p q ≡ true) at (same_cell q) in
-            or_first (is_one r) (list_any is_one rs) (ap (λ b. b && passes r) here ∙ same r each.0 ∙ ap test (sym at) ∙ passed)
-        | inr later ↦ or_second (is_one r) (list_any is_one rs) (from_test rs each.1 later passed)
-      ]
-
-  pub readers_pass : (rs : List Reading) → AreReaders book rs → (test q ≡ true → is_formula_cell book q ≡ true) → list_any is_one rs ≡ test q
-  readers_pass rs are formulas =
-      let each = recursion_from_All _ rs are.each in
-      same_tests _ _ (to_test rs each) (λ passed. from_test rs each (are.every q (formulas passed)) passed)
 
 module _ (book : Book) (changes : Rectangle → Bool) (q : Place) where
   reads_formula : (content : Content) → list_any changes (content_areas q (area_named book) content) ≡ true → is_formula content ≡ true
@@ -80,9 +49,13 @@ module _ (book : Book) (changes : Rectangle → Bool) (q : Place) where
   reads_formula (Formula tree) h = refl
   reads_formula (Raw text) h = h
 
-  pub readers_read : (rs : List Reading) → AreReaders book rs → list_any (is_reader_of changes q) rs ≡ reads_any book changes q
-  readers_read rs are =
-      readers_pass book (reads_any book changes) (λ r. list_any changes r.1) (λ r is. ap (list_any changes) is.areas) q rs are (reads_formula (content_at book q))
+  -- formulas alone read an area that changes, as a hub says
+  pub hub_reads : (read : ReadAreas) → HoldsReads read book → (is_formula_cell book q && list_any changes (listed (read q))) ≡ reads_any book changes q
+  hub_reads read holds =
+      elim (is_formula_cell book q) as (λ b. is_formula_cell book q ≡ b → (b && list_any changes (listed (read q))) ≡ reads_any book changes q) [
+        | true ↦ λ is. ap (λ o. list_any changes (listed o)) (holds q ∙ ap (λ b. cond b (Some (reads book q)) None) is)
+        | false ↦ λ is_not. sym (false_from_ne_true _ (λ some. let no : is_formula_cell book q ≡ true = reads_formula (content_at book q) some in cc))
+      ] refl
 
 -- where a cell is found among cells at other places, of which none comes to it that wasn't there
 module _ (goes : Place → Place) (change : Place → Tree → Tree) (stays : Place → Bool) (q : Place) (same : (p : Place) → stays p ≡ true → eq_by_cmp place_cmp q (goes p) ≡ eq_by_cmp place_cmp q p) where

@@ -12,7 +12,7 @@ use Rattle.calc_addr.specs.Places.{Place, Rectangle, corner, covers, place_cmp, 
 use Rattle.calc_model.proofs.Areas.{Inside, all_places, both_true, covered, inside, places_all}
 use Rattle.calc_model.proofs.Places.{same_places}
 use Rattle.calc_model.proofs.Reached.{either, or_first, or_second, or_true, same_cell, some_item}
-use Rattle.plain_evaluator.proofs.Covered.{same_tests}
+use Rattle.workbook.proofs.Tests.{same_tests}
 use Rattle.workbook.specs.Touched.{Parts, contains_cell, lies_in}
 
 -- a new cell that is taken out again leaves the cells as they were

@@ -7,7 +7,8 @@ use Rattle.std.specs.Cmp.Lexicographic.{slice_cmp}
 use Rattle.std.specs.Str.{str_to_ascii_uppercase}
 use Rattle.std.specs.Ordering.{eq_by_cmp}
 use Rattle.std.proofs.lemmas.Bool.{false_from_ne_true, and_from, and_parts}
-use Rattle.calc_addr.specs.Places.{Place, place_cmp}
+use Rattle.std.specs.List.{list_any}
+use Rattle.calc_addr.specs.Places.{Place, covers, place_cmp}
 use Rattle.calc_model.specs.declared.content.Content.{Content}
 use Rattle.calc_model.specs.Books.{Book, area_named, content_at, entry_named, is_formula, looked_up}
 use Rattle.calc_model.specs.Reads.{content_areas, reads}
@@ -16,8 +17,8 @@ use Rattle.std.specs.Option.{option_map_or}
 use Rattle.calc_model.specs.declared.edit.Edit.{Edit}
 use Rattle.calc_model.specs.Touched.{CellSet, moved, origin}
 use Rattle.calc_model.proofs.Reached.{either, or_first, or_second, or_true, reaches_at_all, reaches_indeed}
-use Rattle.plain_evaluator.proofs.Covered.{same_tests}
-use Rattle.workbook.specs.Touched.{contains_cell, is_touched, lies_in, uses_any}
+use Rattle.workbook.proofs.Tests.{same_tests}
+use Rattle.workbook.specs.Touched.{Parts, contains_cell, is_touched, lies_in, uses_any}
 use Rattle.workbook.proofs.NamesIn.{uses_none}
 use Rattle.workbook.specs.Workbook.{State, stale_of}
 
@@ -172,3 +173,9 @@ filter_same f g same (x ∷ xs) = ap (λ b. cond b (x ∷ filter f xs) (filter f
 pub found_stale : (state : State) (found : List Place) → ((q : Place) → contains_cell found q ≡ (is_formula_cell state.book q && reaches state.book (is_touched state.book state.touched) q)) → count_in state.book (contains_cell found) ≡ count_in state.book (stale_of state)
 unfolding stale_of
 found_stale state found same = ap (λ (es : List (Place × Content)). length es) (filter_same (λ entry. contains_cell found entry.0) (λ entry. stale_of state entry.0) (λ entry. same entry.0) state.book.cells)
+
+-- with all touched, each cell reaches a touched one
+pub all_reach : (book : Book) (parts : Parts) → parts.all ≡ true → (q : Place) → (is_formula_cell book q && reaches book (is_touched book parts) q) ≡ is_formula_cell book q
+unfolding lies_in
+all_reach book parts all q =
+    ap (λ b. is_formula_cell book q && b) (reaches_at_all book (is_touched book parts) q (Reaches.itself (or_first (lies_in parts q) _ (ap (λ b. b || contains_cell parts.cells q || list_any (λ area. covers area q) parts.areas) all)))) ∙ and_true (is_formula_cell book q)

@@ -111,7 +111,7 @@ same_circles true false to from = from refl
 same_circles false true to from = sym (to refl)
 
 module _ (before after : Book) (kept : CellSet) (content : (q : Place) → kept q ≡ true → content_at after q ≡ content_at before q) (read : (q : Place) → kept q ≡ true → reads after q ≡ reads before q) (closed : (q : Place) → kept q ≡ true → all_cells kept (reads after q) ≡ true) (meant : (q : Place) → kept q ≡ true → (tree : Tree) → content_at after q ≡ Formula tree → (v : CellValues) → eval q (area_named after) v tree ≡ eval q (area_named before) v tree) where
-  circles : (q : Place) → kept q ≡ true → is_circular after q ≡ is_circular before q
+  pub circles : (q : Place) → kept q ≡ true → is_circular after q ≡ is_circular before q
   circles q is =
       same_circles (is_circular after q) (is_circular before q)
       (circular_too after before kept (λ p h. sym (content p h)) (λ p h. sym (read p h)) closed q is)

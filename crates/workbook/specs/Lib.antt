@@ -1,4 +1,3 @@
 pub mod Touched
-pub mod Reach
 pub mod Readers
 pub mod Workbook

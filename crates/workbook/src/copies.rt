@@ -4,7 +4,7 @@ ghost use Rattle.calc_addr.specs.ValidReferences.{is_rectangle};
 ghost use Rattle.calc_model.specs.Books.{content_at};
 ghost use Rattle.calc_model.specs.CellEdits.{after_copy, after_fill, area_at};
 ghost use Rattle.calc_model.specs.declared.edit.EditCause.{EditCause};
-ghost use Rattle.workbook.specs.Workbook.{IsRefused, Made};
+ghost use Rattle.workbook.specs.Workbook.{IsDead, IsRefused, Made};
 
 use crate::fault::EditFault;
 use crate::workbook::Workbook;
@@ -19,7 +19,7 @@ impl Workbook {
         ensures done { OnOk result (Made self.old (Edit.Copy area to) self.new) }
         ensures refused { (cause : EditCause) → IsErrOf result (EditFault.Refused cause) →
             IsRefused self.old (Edit.Copy area to) cause self.new }
-        ensures no_memory { IsErrOf result EditFault.NoMemory → self.new.dead ≡ true }
+        ensures no_memory { IsErrOf result EditFault.NoMemory → IsDead self.new }
         ensures not_dead { IsErrOf result EditFault.Dead → ⊥ }
     {
         if to.sheet != area.sheet {
@@ -53,7 +53,7 @@ impl Workbook {
         ensures done { OnOk result (Made self.old (Edit.Fill from area) self.new) }
         ensures refused { (cause : EditCause) → IsErrOf result (EditFault.Refused cause) →
             IsRefused self.old (Edit.Fill from area) cause self.new }
-        ensures no_memory { IsErrOf result EditFault.NoMemory → self.new.dead ≡ true }
+        ensures no_memory { IsErrOf result EditFault.NoMemory → IsDead self.new }
         ensures not_dead { IsErrOf result EditFault.Dead → ⊥ }
     {
         if from.sheet != area.sheet {

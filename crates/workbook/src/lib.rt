@@ -1,15 +1,13 @@
-//! A workbook: edits of a book, which formulas they make stale, and recalculation from
-//! scratch.
+//! A workbook: edits of a book, which formulas they make stale, and recalculation of these.
 #![tactic(auto)]
 
 mod copies;
 mod fault;
 mod name_edits;
 mod names;
-mod reach;
 mod row_edits;
+mod stale;
 mod touched;
-mod users;
 mod workbook;
 
 pub use fault::EditFault;

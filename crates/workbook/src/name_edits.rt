@@ -1,7 +1,7 @@
 //! Edits of names, and the generated book.
 ghost use Rattle.std.specs.Prelude.{◌≡◌, ◌≤◌, false, true, IsErrOf, OnOk};
 ghost use Rattle.calc_model.specs.declared.edit.EditCause.{EditCause};
-ghost use Rattle.workbook.specs.Workbook.{IsRefused, Made};
+ghost use Rattle.workbook.specs.Workbook.{IsDead, IsRefused, Made};
 
 use crate::fault::EditFault;
 use crate::touched::Touched;
@@ -23,7 +23,7 @@ impl Workbook {
         ensures done { OnOk result (Made self.old (Edit.Name name.now area) self.new) }
         ensures refused { (cause : EditCause) → IsErrOf result (EditFault.Refused cause) →
             IsRefused self.old (Edit.Name name.now area) cause self.new }
-        ensures no_memory { IsErrOf result EditFault.NoMemory → self.new.dead ≡ true }
+        ensures no_memory { IsErrOf result EditFault.NoMemory → IsDead self.new }
         ensures not_dead { IsErrOf result EditFault.Dead → ⊥ }
     {
         match self.book.define_name(alloc, name, area) {
@@ -42,7 +42,7 @@ impl Workbook {
         ensures done { OnOk result (Made self.old (Edit.Unname name.now) self.new) }
         ensures refused { (cause : EditCause) → IsErrOf result (EditFault.Refused cause) →
             IsRefused self.old (Edit.Unname name.now) cause self.new }
-        ensures no_memory { IsErrOf result EditFault.NoMemory → self.new.dead ≡ true }
+        ensures no_memory { IsErrOf result EditFault.NoMemory → IsDead self.new }
         ensures not_dead { IsErrOf result EditFault.Dead → ⊥ }
     {
         match self.book.remove_name(alloc, name) {
@@ -59,7 +59,7 @@ impl Workbook {
         requires { rows ≤ MOST_GENERATED_ROWS }
         ensures done { OnOk result (Made self.old (Edit.Make start rows) self.new) }
         ensures refused { (cause : EditCause) → IsErrOf result (EditFault.Refused cause) → ⊥ }
-        ensures no_memory { IsErrOf result EditFault.NoMemory → self.new.dead ≡ true }
+        ensures no_memory { IsErrOf result EditFault.NoMemory → IsDead self.new }
         ensures not_dead { IsErrOf result EditFault.Dead → ⊥ }
     {
         match LinkedBook::generated(alloc, start, rows) {

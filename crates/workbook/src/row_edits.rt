@@ -1,23 +1,28 @@
 //! Inserted and deleted rows.
-ghost use Rattle.std.specs.Prelude.{◌≡◌, ◌≤◌, ◌||◌, false, true, IsErrOf, OnOk};
+ghost use Rattle.std.specs.Prelude.{◌≡◌, ◌≤◌, ◌&&◌, ◌||◌, false, true, IsErrOf, OnOk};
 ghost use Rattle.std.specs.List.{list_any};
-ghost use Rattle.calc_addr.specs.Places.{Place, covers};
+ghost use Rattle.std.specs.Ordering.{eq_by_cmp};
+ghost use Rattle.calc_addr.specs.Places.{Place, covers, place_cmp};
 ghost use Rattle.calc_model.specs.Books.{IsBook};
 ghost use Rattle.calc_model.specs.Reads.{reads};
 ghost use Rattle.calc_model.specs.Changes.{IsChange};
 ghost use Rattle.calc_model.specs.RowEdits.{are_rows, has_rows_of, is_pushed_out};
 ghost use Rattle.calc_model.specs.Touched.{rows_from};
 ghost use Rattle.calc_model.specs.declared.edit.EditCause.{EditCause};
-ghost use Rattle.workbook.specs.Readers.{changes_area, is_reader_of};
+ghost use Rattle.calc_model.specs.Listeners.{listed};
+ghost use Rattle.dirty_spread.specs.Waves.{has};
+ghost use Rattle.listener_hub.specs.Hubs.{areas_read};
+ghost use Rattle.workbook.specs.Readers.{changes_area};
 ghost use Rattle.workbook.specs.Touched.{lies_in};
-ghost use Rattle.workbook.specs.Workbook.{IsRefused, Made};
+ghost use Rattle.workbook.specs.Workbook.{IsDead, IsRefused, Made};
 
 use crate::fault::EditFault;
 use crate::touched::Touched;
 use crate::workbook::Workbook;
-use calc_addr::{Area, LAST_COL, LAST_ROW, LAST_SHEET, NoMemory, delete_row_area, insert_row_area};
-use calc_model::{Change, Edit, EditCause};
-use plain_evaluator::{Reader, readers};
+use calc_addr::{Area, Cell, LAST_COL, LAST_ROW, LAST_SHEET, NoMemory, delete_row_area, insert_row_area};
+use calc_model::{Change, Dependents, Edit, EditCause};
+use cell_runs::CellRuns;
+use listener_hub::Hub;
 use std::alloc::Global;
 
 impl Workbook {
@@ -33,7 +38,7 @@ impl Workbook {
         ensures refused { (cause : EditCause) → IsErrOf result (EditFault.Refused cause) →
             IsRefused self.old (Edit.InsertRows sheet place count) cause self.new }
         ensures was_book { OnOk result (IsBook self.old.book) }
-        ensures no_memory { IsErrOf result EditFault.NoMemory → self.new.dead ≡ true }
+        ensures no_memory { IsErrOf result EditFault.NoMemory → IsDead self.new }
         ensures not_dead { IsErrOf result EditFault.Dead → ⊥ }
     {
         if !are_rows(sheet, place, count) {
@@ -82,7 +87,7 @@ impl Workbook {
         ensures refused { (cause : EditCause) → IsErrOf result (EditFault.Refused cause) →
             IsRefused self.old (Edit.DeleteRows sheet place count) cause self.new }
         ensures was_book { OnOk result (IsBook self.old.book) }
-        ensures no_memory { IsErrOf result EditFault.NoMemory → self.new.dead ≡ true }
+        ensures no_memory { IsErrOf result EditFault.NoMemory → IsDead self.new }
         ensures not_dead { IsErrOf result EditFault.Dead → ⊥ }
     {
         if !are_rows(sheet, place, count) {
@@ -123,6 +128,7 @@ impl Workbook {
         place: u32,
         change: Change,
     ) -> Result<(), NoMemory>
+        requires ready { self.old.spent ≡ false }
         requires sheet { sheet ≤ LAST_SHEET }
         requires from { 1 ≤ place }
         requires to { place ≤ LAST_ROW }
@@ -136,7 +142,6 @@ impl Workbook {
             ≡ (lies_in self.old.touched q || (covers (rows_from sheet place) q
             || list_any (changes_area change) (reads self.old.book q)))) }
     {
-        let readers = readers(alloc, self.book.parts())?;
         let area = Area {
             sheet,
             first_col: 1,
@@ -145,32 +150,53 @@ impl Workbook {
             last_row: LAST_ROW,
         };
         self.touched.add_area(area)?;
-        touch_readers(&mut self.touched, &readers, change)
+        let formulas = self.book.parts().formula_cells(alloc)?;
+        touch_readers(alloc, &mut self.touched, &formulas, self.book.hub(), change)
     }
 }
 
-/// Touches the readers of areas that change.
-fn touch_readers(touched: &mut Touched, readers: &[Reader], change: Change) -> Result<(), NoMemory>
-    requires { IsChange change }
-    ensures cells { OnOk result ((q : Place) → lies_in touched.new q
-        ≡ (lies_in touched.old q || list_any (is_reader_of (changes_area change) q) readers.now)) }
+/// Touches those of some formulas that read an area that changes. It asks the hub what each of them reads.
+fn touch_readers(
+    alloc: Global,
+    touched: &mut Touched,
+    formulas: &CellRuns,
+    hub: &Hub,
+    change: Change,
+) -> Result<(), NoMemory>
+    requires change { IsChange change }
+    requires ready { hub.now.spent ≡ false }
+    ensures cells { OnOk result ((q : Place) → lies_in touched.new q ≡ (lies_in touched.old q
+        || (has formulas.now q && list_any (changes_area change) (listed (areas_read hub.now q))))) }
     ensures names { touched.new.names ≡ touched.old.names }
 {
-    for reader in readers {
-        touch_reader(touched, reader, change)?;
+    let mut areas = Vec::new(alloc);
+    for place in 0..formulas.len() {
+        if let Some(cell) = formulas.cell(place) {
+            touch_reader(touched, cell, hub, &mut areas, change)?;
+        }
     }
     Ok(())
 }
 
-/// Touches the formula where it reads an area that changes.
-fn touch_reader(touched: &mut Touched, reader: &Reader, change: Change) -> Result<(), NoMemory>
-    requires { IsChange change }
-    ensures cells { OnOk result ((q : Place) → lies_in touched.new q
-        ≡ (lies_in touched.old q || is_reader_of (changes_area change) q reader.now)) }
+/// Touches the formula where it reads an area that changes. The areas are where those that it reads are put.
+fn touch_reader(
+    touched: &mut Touched,
+    cell: Cell,
+    hub: &Hub,
+    areas: &mut Vec<Area>,
+    change: Change,
+) -> Result<(), NoMemory>
+    requires change { IsChange change }
+    requires ready { hub.now.spent ≡ false }
+    ensures cells { OnOk result ((q : Place) → lies_in touched.new q ≡ (lies_in touched.old q
+        || (eq_by_cmp place_cmp q cell
+        && list_any (changes_area change) (listed (areas_read hub.now q))))) }
     ensures names { touched.new.names ≡ touched.old.names }
 {
-    if is_any_changed(reader.areas(), change) {
-        touched.add_cell(reader.cell())?;
+    areas.clear();
+    hub.reads(cell, areas)?;
+    if is_any_changed(areas, change) {
+        touched.add_cell(cell)?;
     }
     Ok(())
 }

@@ -5,7 +5,7 @@ ghost use Rattle.std.specs.BTreeSet.{insert_key};
 ghost use Rattle.std.specs.Set.{remove_key};
 ghost use Rattle.std.specs.List.{list_any};
 ghost use Rattle.std.specs.Ordering.{eq_by_cmp};
-ghost use Rattle.calc_addr.specs.Places.{Place, Rectangle, covers, place_cmp, places};
+ghost use Rattle.calc_addr.specs.Places.{Place, Rectangle, covers, place_cmp};
 ghost use Rattle.calc_model.specs.UsedNames.{is_same_name};
 ghost use Rattle.workbook.specs.Touched.{contains_cell, has_name, lies_in};
 
@@ -142,26 +142,38 @@ impl Touched {
         &self.names
     }
 
-    /// Whether it has the cell by another way than by a name. Linear in its areas.
-    pub(crate) fn has(&self, cell: Cell) -> bool
-        ensures { result ≡ lies_in self.now cell }
+    /// Whether it has every cell.
+    pub(crate) fn is_all(&self) -> bool
+        ensures { result ≡ self.now.all }
     {
-        self.all || self.cells.contains(&cell) || is_covered(&self.areas, cell)
+        self.all
     }
 
-    /// Whether it has a cell of the area by another way than by a name. Linear in its areas, and in the lesser of its single cells and
-    /// the area's cells.
-    pub(crate) fn has_cell_in(&self, area: Area) -> bool
-        ensures { result ≡ list_any (lies_in self.now) (places area) }
+    /// Its areas, and those of its single cells, where it hasn't every cell.
+    pub(crate) fn areas(&self, alloc: Global) -> Result<Vec<Area>, NoMemory>
+        requires { self.now.all ≡ false }
+        ensures { IfOk result (λ areas. (q : Place) → list_any (λ area. covers area q) areas.items
+            ≡ lies_in self.now q) }
     {
-        // Where it has every cell, it has the first one.
-        if self.has(area.corner()) {
-            return true;
+        let mut areas = Vec::new(alloc);
+        areas.extend_from_slice(&self.areas)?;
+        for cell in &self.cells {
+            areas.push(area_of(*cell))?;
         }
-        if has_cell_in(&self.cells, area) {
-            return true;
-        }
-        is_any_met(&self.areas, area)
+        Ok(areas)
+    }
+}
+
+/// The area of a cell alone.
+pub(crate) fn area_of(cell: Cell) -> Area
+    ensures { (q : Place) → covers result q ≡ eq_by_cmp place_cmp q cell }
+{
+    Area {
+        sheet: cell.sheet,
+        first_col: cell.col,
+        last_col: cell.col,
+        first_row: cell.row,
+        last_row: cell.row,
     }
 }
 
@@ -174,66 +186,4 @@ fn only_cell(area: Area) -> Option<Cell>
     } else {
         None
     }
-}
-
-/// Whether one of the areas has the cell.
-fn is_covered(areas: &[Area], cell: Cell) -> bool
-    ensures { result ≡ list_any (λ area. covers area cell) areas.now }
-{
-    areas.iter().any(|area| area.covers(cell))
-}
-
-/// Whether one of the areas has a cell of this one.
-fn is_any_met(areas: &[Area], area: Area) -> bool
-    ensures { result ≡ list_any (λ other. list_any (covers other) (places area)) areas.now }
-{
-    areas.iter().any(|other| do_meet(*other, area))
-}
-
-/// Whether the areas have a cell in common: then both cover the cell at the later of their first columns
-/// and the later of their first rows.
-fn do_meet(a: Area, b: Area) -> bool
-    ensures { result ≡ list_any (covers a) (places b) }
-{
-    let cell = Cell {
-        sheet: a.sheet,
-        col: a.first_col.max(b.first_col),
-        row: a.first_row.max(b.first_row),
-    };
-    a.covers(cell) && b.covers(cell)
-}
-
-/// Whether the set has a cell of the area. Linear in the lesser of the set and the area's cells.
-pub(crate) fn has_cell_in(set: &BTreeSet<Cell>, area: Area) -> bool
-    ensures { result ≡ list_any (contains_cell set.now.keys) (places area) }
-{
-    if area.cell_count() < set.len() as u64 {
-        has_any_of(set, area)
-    } else {
-        is_any_covered(set, area)
-    }
-}
-
-/// Whether a cell of the area is in the set.
-fn has_any_of(set: &BTreeSet<Cell>, area: Area) -> bool
-    ensures { result ≡ list_any (contains_cell set.now.keys) (places area) }
-{
-    for cell in area.cells() {
-        if set.contains(&cell) {
-            return true;
-        }
-    }
-    false
-}
-
-/// Whether a cell of the set is in the area.
-fn is_any_covered(set: &BTreeSet<Cell>, area: Area) -> bool
-    ensures { result ≡ list_any (contains_cell set.now.keys) (places area) }
-{
-    for cell in set {
-        if area.covers(*cell) {
-            return true;
-        }
-    }
-    false
 }

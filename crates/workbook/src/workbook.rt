@@ -1,6 +1,5 @@
 //! A workbook: its parts, what they show, and the edits of both.
 ghost use Rattle.std.specs.Prelude.{◌≡◌, ◌≤◌, ◌↔◌, ◌++◌, [], length, IfOk, IsErrOf, OnOk, OnErr, false, map, true};
-ghost use Rattle.std.specs.List.{filter};
 ghost use Rattle.calc_addr.specs.Places.{Place};
 ghost use Rattle.calc_model.specs.Books.{content_at, formula_count, with_content};
 ghost use Rattle.calc_model.specs.Step.{is_makeable};
@@ -8,39 +7,38 @@ ghost use Rattle.calc_model.specs.Stale.{count_in, is_formula_cell};
 ghost use Rattle.calc_model.specs.Printed.{printed_content};
 ghost use Rattle.calc_model.specs.Val.{val};
 ghost use Rattle.calc_model.specs.ValueTexts.{lent};
-ghost use Rattle.book_parts.specs.ShownCells.{shown_values};
+ghost use Rattle.formula_results.specs.ShownCells.{shown_values};
 ghost use Rattle.listener_hub.specs.Hubs.{areas_read};
 ghost use Rattle.formula_listeners.specs.Held.{HoldsReads};
 ghost use Rattle.cell_columns.specs.Looks.{AreSlotsOf};
 ghost use Rattle.cell_columns.specs.ColumnRuns.{AllLie, IsSheetColumn, blocks_in, groups_in, rows_of_block, rows_of_group, rows_of_run};
 ghost use Rattle.calc_model.specs.declared.edit.EditCause.{EditCause};
-ghost use Rattle.workbook.specs.Touched.{contains_cell};
-ghost use Rattle.workbook.specs.Workbook.{AfterNoMemory, IsFresh, IsRefused, Made, WasBook, mended, stale_of, values_of};
+ghost use Rattle.workbook.specs.Workbook.{AfterNoMemory, IsDead, IsFresh, IsRefused, Made, WasBook, mended, stale_of, values_of};
 
 use crate::fault::EditFault;
-use crate::reach::reached;
+use crate::stale::stale_cells;
 use crate::touched::Touched;
 use block_column::{Block, BlockColumn};
-use book_parts::{BookParts, ResultMap, ShownCells, shown};
+use book_parts::BookParts;
 use calc_addr::{Area, Cell, NoMemory};
 use calc_model::{Content, Edit, EditCause, MOST_CELLS, Seen};
 use formula_groups::Group;
 use formula_printer::print_content;
+use formula_results::{ShownCells, shown};
 use linked_book::LinkedBook;
 use listener_hub::Hub;
-use plain_evaluator::evaluate;
+use recalc::StoredResults;
 use std::alloc::Global;
-use std::collections::BTreeSet;
 use std::marker::Model;
 
-/// The parts of a book with its hub, the results of the last recalculation, what edits touched since then,
-/// and whether it is dead. Contracts see the book, whether the hub is spent, and the other three;
-/// `stale_of` says which formulas are stale, and `values_of` what cells show by the results.
+/// The parts of a book with its hub, the stored results of its formulas, what edits touched since the last
+/// recalculation, and whether it is dead. Contracts see the book, whether the hub is spent, and the other
+/// three; `stale_of` says which formulas are stale, and `values_of` what cells show by the results.
 #[derive(Drop)]
 pub struct Workbook {
     alloc: Global,
     pub(crate) book: LinkedBook,
-    results: ResultMap,
+    results: StoredResults,
     pub(crate) touched: Touched,
     dead: bool,
 }
@@ -87,7 +85,7 @@ impl Workbook {
         Ok(Workbook {
             alloc,
             book,
-            results: ResultMap::new(alloc),
+            results: StoredResults::new(alloc),
             touched: Touched::none(alloc),
             dead: false,
         })
@@ -106,7 +104,7 @@ impl Workbook {
         Ok(Workbook {
             alloc,
             book,
-            results: ResultMap::new(alloc),
+            results: StoredResults::new(alloc),
             touched: Touched::all(alloc),
             dead: false,
         })
@@ -147,7 +145,7 @@ impl Workbook {
         ensures kept { self.old.dead ≡ true → self.new ≡ self.old }
         ensures no_memory { IsErrOf result EditFault.NoMemory →
             AfterNoMemory self.old edit.now self.new }
-        ensures fresh { IsFresh self.old → OnOk result (IsFresh self.new) }
+        ensures fresh { IsFresh self.old → IsFresh self.new }
     {
         if self.dead {
             return Err(EditFault::Dead);
@@ -273,42 +271,35 @@ impl Workbook {
     /// Dies of want of memory.
     pub(crate) fn die(&mut self) -> EditFault
         ensures fault { result ≡ EditFault.NoMemory }
-        ensures dead { self.new.dead ≡ true }
+        ensures dead { IsDead self.new }
     {
         self.dead = true;
+        self.touched = Touched::all(self.alloc);
         EditFault::NoMemory
     }
 
-    /// How many formulas are stale. It takes two sweeps over the formulas, and more only where reading goes
-    /// in circles.
-    pub fn stale_count(&self, alloc: Global) -> Result<usize, NoMemory>
-        ensures { IfOk result (λ count. count ≡ count_in self.now.book (stale_of self.now)) }
-    {
-        let parts = self.book.parts();
-        let found = reached(alloc, parts, &self.touched)?;
-        count_found(alloc, parts, &found)
-    }
-
-    /// Evaluates all formulas from scratch. None is stale afterwards, and every cell has its value. Where
-    /// memory is refused, the workbook is as before.
-    #[tactic(auto, unfolding(crate::specs::Workbook::values_of))]
+    /// Calculates the stale formulas again, over the results of the others. None is stale afterwards, and
+    /// every cell has its value. Each stale formula is evaluated once, after those that it reads. Where
+    /// memory is refused, the same formulas are stale, and the others keep their results.
     pub fn recalculate(&mut self, alloc: Global) -> Result<Recalculated, NoMemory>
+        requires { IsFresh self.old }
         ensures count { IfOk result (λ done.
             done.stale ≡ count_in self.old.book (stale_of self.old)) }
         ensures values { OnOk result ((q : Place) → values_of self.new q ≡ val self.new.book q) }
         ensures stale { OnOk result ((q : Place) → stale_of self.new q ≡ false) }
-        ensures fresh { OnOk result (IsFresh self.new) }
+        ensures kept { OnErr result ((q : Place) → stale_of self.new q ≡ stale_of self.old q) }
+        ensures fresh { IsFresh self.new }
         ensures book { self.new.book ≡ self.old.book }
         ensures alive { self.new.dead ≡ self.old.dead }
         ensures ready { OnOk result (self.new.spent ≡ false) }
-        ensures kept { OnErr result (self.new ≡ self.old) }
     {
-        let stale = self.stale_count(alloc)?;
-        let results = evaluate(alloc, self.book.parts())?;
         self.book.mend(alloc)?;
-        self.results = results;
+        self.book.parts().are_book();
+        let stale = stale_cells(alloc, &self.book, &self.touched)?;
+        self.results
+            .recalculate(alloc, self.book.parts(), self.book.hub(), &stale)?;
         self.touched = Touched::none(alloc);
-        Ok(Recalculated { stale })
+        Ok(Recalculated { stale: stale.len() })
     }
 
     /// What the cell shows. It takes the logarithm of the cells.
@@ -318,7 +309,7 @@ impl Workbook {
         ensures fresh { IsFresh self.now → stale_of self.now cell ≡ false
             → lent result ≡ val self.now.book cell }
     {
-        shown(self.book.parts(), &self.results, cell)
+        shown(self.book.parts(), self.results.results(), cell)
     }
 
     /// What all cells show.
@@ -328,7 +319,7 @@ impl Workbook {
         ensures fresh { IsFresh self.now → ((q : Place) → stale_of self.now q ≡ false)
             → (q : Place) → shown_values result q ≡ val self.now.book q }
     {
-        ShownCells::of(self.book.parts(), &self.results)
+        ShownCells::of(self.book.parts(), self.results.results())
     }
 
     /// The formula groups of a column, downwards: its maximal runs of formulas with one relative form. It
@@ -377,19 +368,4 @@ impl Workbook {
         let content = self.book.parts().content(self.alloc, cell)?;
         print_content(&content, out)
     }
-}
-
-/// How many cells that aren't empty are in the set.
-fn count_found(alloc: Global, cells: &BookParts, found: &BTreeSet<Cell>) -> Result<usize, NoMemory>
-    ensures { IfOk result (λ count. count ≡ count_in cells.now (contains_cell found.now.keys)) }
-{
-    let held = cells.cells(alloc)?;
-    Ok(count_among(&held, found))
-}
-
-/// How many of these cells are in the set.
-fn count_among(cells: &[Cell], found: &BTreeSet<Cell>) -> usize
-    ensures { result ≡ length (filter (contains_cell found.now.keys) cells.now) }
-{
-    cells.iter().filter(|cell| found.contains(*cell)).count()
 }

@@ -1,14 +1,14 @@
-use Rattle.std.proofs.Common.{◌≡◌, ◌||◌, drop}
+use Rattle.std.proofs.Common.{◌≡◌}
 use Rattle.std.specs.List.{list_any}
-use Rattle.calc_addr.specs.Places.{Place}
-use Rattle.workbook.specs.Readers.{changes_area, is_reader_of}
+use Rattle.calc_model.specs.Listeners.{listed}
+use Rattle.listener_hub.specs.Hubs.{areas_read}
+use Rattle.workbook.specs.Readers.{changes_area}
 use Rattle.workbook.specs.Touched.{lies_in}
+use Rattle.workbook.proofs.Tests.{Walked}
 use Rattle.workbook.proofs.row_edits.touch_readers.Given as goal
 
--- with the readers that are left, as many cells are touched in the end
-abbrev pub invariant-loop-reader : goal.invariant-loop-reader
-invariant-loop-reader l =
-    record {
-      cells : (q : Place) → (lies_in l.touched q || list_any (is_reader_of (changes_area l.change) q) (drop l.reader-index l.readers)) ≡ (lies_in l.initial.touched q || list_any (is_reader_of (changes_area l.change) q) l.readers);
-      names : l.touched.names ≡ l.initial.touched.names;
-    }
+abbrev pub invariant-loop-place : goal.invariant-loop-place
+invariant-loop-place l = record {
+  cells : Walked l.formulas l.place (λ q. list_any (changes_area l.change) (listed (areas_read l.hub q))) (lies_in l.initial.touched) (lies_in l.touched);
+  names : l.touched.names ≡ l.initial.touched.names;
+}

@@ -1,7 +1,8 @@
 use Rattle.std.proofs.Common.{◌≡◌, false, sym, subst, ap, ◌∙◌}
 use Rattle.std.specs.Prelude.{OnOk}
 use Rattle.workbook.specs.Workbook.{AfterNoMemory, IsRefused, State, WasBook, mended}
-use Rattle.workbook.proofs.EditsLeave.{edit_fresh}
+use Rattle.workbook.proofs.EditsLeave.{edit_fresh, no_memory_fresh}
+use Rattle.workbook.proofs.Recalculating.{fresh_same}
 use Rattle.workbook.proofs.Mended.{made_by, refused_before, where_no_error}
 use Rattle.workbook.proofs.workbook.Workbook.edit.Goals as goal
 
@@ -30,4 +31,10 @@ pub returns-clause-fresh : goal.returns-clause-fresh
 returns-clause-fresh c = λ fresh.
     edit_fresh c.make.result c.args.self.now c.make.new.self c.args.edit.now
     (subst (λ (s : State). OnOk c.make.result (WasBook s.book c.args.edit.now)) (is_mended c) c.make.ensures.was_book)
-    (returns-clause-done c) fresh
+    (returns-clause-done c) (returns-clause-refused c) (returns-clause-no_memory c) c.make.ensures.not_dead fresh
+
+pub returns-then-is_err-clause-fresh : goal.returns-then-is_err-clause-fresh
+returns-then-is_err-clause-fresh c = λ fresh.
+    let before : State = record { book = c.mend.new.self.book; spent = c.mend.new.self.spent; results = c.self.inside.results; touched = c.self.inside.touched; dead = c.self.inside.dead } in
+    no_memory_fresh before c.give_up.new.self c.args.edit.now c.give_up.ensures.after
+    (fresh_same c.args.self.now before (sym (c.mend.ensures.book ∙ ap (λ (s : State). s.book) c.self.view_is)) (sym (ap (λ (s : State). s.results) c.self.view_is)) (sym (ap (λ (s : State). s.touched) c.self.view_is)) fresh)

@@ -3,7 +3,7 @@ use Rattle.calc_addr.specs.Places.{Place}
 use Rattle.calc_model.specs.Books.{Book}
 use Rattle.calc_model.specs.Stale.{is_formula_cell}
 use Rattle.workbook.specs.Workbook.{State, stale_of}
-use Rattle.workbook.proofs.Fresh.{fresh_loaded}
+use Rattle.workbook.proofs.Fresh.{fresh_when_stale}
 use Rattle.workbook.proofs.Staleness.{all_stale}
 use Rattle.workbook.proofs.workbook.Workbook.load.Goals as goal
 
@@ -13,4 +13,4 @@ returns-clause-stale c =
     subst (λ (book : Book). (q : Place) → stale_of state q ≡ is_formula_cell book q) c.in_ok-book.ensures.book (all_stale state c.all.ensures.cells)
 
 pub returns-clause-fresh : goal.returns-clause-fresh
-returns-clause-fresh c = fresh_loaded _ (all_stale _ c.all.ensures.cells)
+returns-clause-fresh c = fresh_when_stale _ (all_stale _ c.all.ensures.cells)
