@@ -6,6 +6,7 @@ mod changing;
 mod columns;
 mod counting;
 mod emptying;
+mod filling;
 mod formulas;
 mod lending;
 mod looking;
