@@ -20,7 +20,7 @@ use Rattle.cell_columns.specs.Filled.{entries_at}
 use Rattle.cell_columns.proofs.Contents.{find_inserted}
 use Rattle.cell_columns.proofs.PutSlot.{unequal}
 
-inserted : (es : CellEntries) (cell q : Place) (content : Content) → content_at (cells_only (insert_entry place_cmp es cell content)) q ≡ cond (eq_by_cmp place_cmp q cell) content (content_at (cells_only es) q)
+pub inserted : (es : CellEntries) (cell q : Place) (content : Content) → content_at (cells_only (insert_entry place_cmp es cell content)) q ≡ cond (eq_by_cmp place_cmp q cell) content (content_at (cells_only es) q)
 unfolding content_at
 inserted es cell q content =
     ap (λ o. unwrap_or o Empty) (find_inserted es cell q content)

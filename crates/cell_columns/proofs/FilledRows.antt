@@ -25,6 +25,13 @@ use Rattle.cell_columns.proofs.FilledCells.{filled_book, inside, outside}
 use Rattle.cell_columns.proofs.SetRows.{code_kept, content_kept, each_content, sheets_put}
 use Rattle.cell_columns.proofs.Told.{holds, is_book, place_is, place_test, same_cells}
 
+-- a cell of the same column
+pub in_column : (cell : Place) → IsPlace cell → (q : Place) → IsPlace q → column_number q ≡ column_number cell → q ≡ record { sheet = cell.sheet; col = cell.col; row = q.row }
+in_column cell is q at column =
+    let sheets : q.sheet ≡ cell.sheet = ap (λ (p : Place). p.sheet) (place_is q at) ∙ ap (λ k. (0 + k) / 1024) column ∙ sym (ap (λ (p : Place). p.sheet) (place_is cell is)) in
+    let cols : q.col ≡ cell.col = ap (λ (p : Place). p.col) (place_is q at) ∙ ap (λ k. (0 + k) % 1024 + 1) column ∙ sym (ap (λ (p : Place). p.col) (place_is cell is)) in
+    ap (λ s. let p : Place = record { sheet = s; col = q.col; row = q.row } in p) sheets ∙ ap (λ k. let p : Place = record { sheet = cell.sheet; col = k; row = q.row } in p) cols
+
 module _ (old new : Codes) (before : List Column) (was : AreSheets old before) (cell : Place) (is : IsPlace cell) (last : ℕ) (rows : AreRows (cell.row + 1) last) (few : length (cells_of old before) + (last - cell.row) ≤ MOST_CELLS) (x : Slot) (filled : is_filled x ≡ true) (fits : FitsRows old cell (cell.row + 1) last x) where
   abbrev n : ℕ
   n = last + 1 - (cell.row + 1)
@@ -85,12 +92,6 @@ module _ (old new : Codes) (before : List Column) (was : AreSheets old before) (
     abbrev here : ℕ → Place
     here row = record { sheet = cell.sheet; col = cell.col; row = row }
 
-    in_column : (q : Place) → IsPlace q → column_number q ≡ number → q ≡ here q.row
-    in_column q at column =
-        let sheets : q.sheet ≡ cell.sheet = ap (λ (p : Place). p.sheet) (place_is q at) ∙ ap (λ k. (0 + k) / 1024) column ∙ sym (ap (λ (p : Place). p.sheet) (place_is cell is)) in
-        let cols : q.col ≡ cell.col = ap (λ (p : Place). p.col) (place_is q at) ∙ ap (λ k. (0 + k) % 1024 + 1) column ∙ sym (ap (λ (p : Place). p.col) (place_is cell is)) in
-        ap (λ s. let p : Place = record { sheet = s; col = q.col; row = q.row } in p) sheets ∙ ap (λ k. let p : Place = record { sheet = cell.sheet; col = k; row = q.row } in p) cols
-
     is_here : (row : ℕ) → cell.row + 1 ≤ row → row ≤ last → IsPlace (here row)
     is_here row from to = record { sheet_in = is.sheet_in; col_from = is.col_from; col_to = is.col_to; row_from = omega (arith, from); row_to = omega (arith, to, rows.to) }
 
@@ -106,7 +107,7 @@ module _ (old new : Codes) (before : List Column) (was : AreSheets old before) (
         each_content old mid new before was number among a xs room replaced.taken gone put
         (λ q c. content_at (cells_only full) q ≡ c)
         (λ q at column from to.
-        subst (λ p. content_at (cells_only full) p ≡ content_of old p x) (sym (in_column q at column))
+        subst (λ p. content_at (cells_only full) p ≡ content_of old p x) (sym (in_column cell is q at column))
         (inside (λ q. content_of old q x) cell.sheet cell.col n (cell.row + 1) (cells_of old before) q.row (omega (arith, from, at.row_from)) (omega (arith, from, to, long, at.row_from, rows.in_order)))
         ∙ sym (same_mid q (fit_at q at column from to))
         ∙ sym (ap (content_of mid q) (slot_here q from to)))

@@ -34,7 +34,7 @@ before_first ps qs q pairs k d within =
     (subst (IsBefore (get_or (ps ++ q ∷ qs) k d)) (get_or-append_seam ps q qs d)
     (pairs k (length ps) d within (omega (arith, length-append ps (q ∷ qs)))))
 
-from_first : (first last : ℕ) → first ≤ last → from_to first last ≡ first ∷ from_to (first + 1) last
+pub from_first : (first last : ℕ) → first ≤ last → from_to first last ≡ first ∷ from_to (first + 1) last
 from_first first last order =
     let more : last + 1 - first ≡ suc (last + 1 - (first + 1)) = omega (arith, order) in
     ap (range_with_len first) more

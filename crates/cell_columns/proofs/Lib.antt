@@ -14,7 +14,7 @@
 -- EmptyRows: rows of a column that are emptied.
 -- Rooms: columns that are emptied one after the other.
 -- Clearing: a column that is emptied between two rows, with its groups and codes.
--- Repeating: copies of a slot in neighbouring rows. FilledCells, FilledRows, ColumnFilled: what cells hold with them.
+-- Repeating: copies of a slot in neighbouring rows. FilledCells, FilledRows, ColumnFilled, FilledAlike: what cells hold with them.
 -- Walks: the cells of some rows of columns. Filled: rows that hold something.
 -- CountsMore: cells of an area that are counted and listed.
 -- FormulaRows: the cells of groups and of rows with codes. FormulaPlaces: they are those that hold formulas.
@@ -49,6 +49,7 @@ pub mod Repeating
 pub mod FilledCells
 pub mod FilledRows
 pub mod ColumnFilled
+pub mod FilledAlike
 pub mod Walks
 pub mod Filled
 pub mod CountsMore

@@ -139,7 +139,7 @@ module _ (sheet col home : ℕ) (fits : home ≤ LAST_ROW) (cols : ℤ) where
         ∙ nodes_by (after x) tree)
 
 -- what is formed has valid references
-valid_of : (tree : Tree) → is_formed tree ≡ true → has_valid_references tree ≡ true
+pub valid_of : (tree : Tree) → is_formed tree ≡ true → has_valid_references tree ≡ true
 valid_of tree formed = (both_true _ (has_valid_references tree) (sym (formed_parts tree) ∙ formed)).1
 
 pub form_between : (from : Place) → from.row ≤ LAST_ROW → (tree : Tree) → is_formed tree ≡ true → (sheet col x z y : ℕ) → x ≤ z → z ≤ y → (from.row ≤ x) ⊎ (y ≤ from.row) → moved_form from tree (record { sheet = sheet; col = col; row = x }) ≡ moved_form from tree (record { sheet = sheet; col = col; row = y }) → moved_form from tree (record { sheet = sheet; col = col; row = z }) ≡ moved_form from tree (record { sheet = sheet; col = col; row = x })

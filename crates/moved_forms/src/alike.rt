@@ -1,12 +1,15 @@
-ghost use Rattle.std.specs.Prelude.{◌≡◌, ◌≤◌, ◌<◌, ◌^◌, IfOk, IsTrue};
+ghost use Rattle.std.specs.Prelude.{◌≡◌, ◌≤◌, ◌<◌, ◌^◌, true, IfOk, IsTrue};
 ghost use Rattle.calc_addr.specs.declared.cell.TheConstants.{LAST_ROW};
+ghost use Rattle.calc_model.specs.Formed.{is_formed};
+ghost use Rattle.calc_model.specs.declared.content.Content.{Content};
+ghost use Rattle.calc_model.specs.declared.tree.Tree.{Tree};
 ghost use Rattle.calc_model.specs.Homes.{cols_between, rows_between};
 ghost use Rattle.calc_model.specs.TreeShifts.{moved_tree};
 ghost use Rattle.formula_code.specs.Codes.{IsInterned, total_uses};
 ghost use Rattle.moved_forms.specs.Alike.{AreAlike, AreOneSide, in_row, moved_form};
 
 use calc_addr::{Cell, NoMemory};
-use calc_model::{Change, CodeId, Formula};
+use calc_model::{Change, CodeId, Content, Formula};
 use formula_code::{CodeTable, uses_add_up};
 use std::alloc::Global;
 
@@ -62,9 +65,8 @@ fn in_row(cell: Cell, row: u32) -> Cell
 }
 
 /// A row, from that of a cell down to the last one, to which a formula that is moved from another cell keeps
-/// the relative form that it has in the first cell. It is the last such row where the form changes but once.
-/// Logarithmic in the rows, and linear in the formula for each of these tries.
-pub fn last_alike(
+/// the relative form that it has in the first cell.
+fn last_formula(
     alloc: Global,
     from: Cell,
     formula: &Formula,
@@ -76,6 +78,7 @@ pub fn last_alike(
     requires side { AreOneSide from.row first.row last }
     ensures from { IfOk result (λ row. first.row ≤ row) }
     ensures to { IfOk result (λ row. row ≤ last) }
+    ensures formed { is_formed formula.now ≡ true }
     ensures alike { IfOk result (AreAlike from formula.now first) }
 {
     let _ = &from.row;
@@ -95,4 +98,29 @@ pub fn last_alike(
         }
     }
     Ok(low)
+}
+
+/// A row, from that of a cell down to the last one, to which a content that is moved from another cell keeps
+/// the relative form that it has in the first cell, where it is a formula. It is the last such row where the
+/// form changes but once. Logarithmic in the rows, and linear in the formula for each of these tries.
+pub fn last_alike(
+    alloc: Global,
+    from: Cell,
+    content: &Content,
+    first: Cell,
+    last: u32,
+) -> Result<u32, NoMemory>
+    requires order { first.row ≤ last }
+    requires to { last ≤ LAST_ROW }
+    requires side { AreOneSide from.row first.row last }
+    ensures from { IfOk result (λ row. first.row ≤ row) }
+    ensures to { IfOk result (λ row. row ≤ last) }
+    ensures formed { (tree : Tree) → content.now ≡ Content.Formula tree → is_formed tree ≡ true }
+    ensures alike { IfOk result (λ row. (tree : Tree) → content.now ≡ Content.Formula tree
+        → AreAlike from tree first row) }
+{
+    match content {
+        Content::Formula(formula) => last_formula(alloc, from, formula, first, last),
+        _ => Ok(last),
+    }
 }

@@ -1,6 +1,6 @@
 use Rattle.std.proofs.Common.{◌≡◌, ◌≤◌, ◌<◌, ◌+◌, ◌-◌}
 use Rattle.moved_forms.specs.Alike.{in_row, moved_form}
-use Rattle.moved_forms.proofs.alike.last_alike.Given as goal
+use Rattle.moved_forms.proofs.alike.last_formula.Given as goal
 
 -- the lower row is one to which the form is kept
 abbrev pub invariant-loop-low : goal.invariant-loop-low

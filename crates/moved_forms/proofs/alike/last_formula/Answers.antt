@@ -3,8 +3,8 @@ use Rattle.calc_addr.specs.declared.cell.TheConstants.{LAST_ROW}
 use Rattle.calc_addr.specs.Places.{Place}
 use Rattle.moved_forms.specs.Alike.{moved_form}
 use Rattle.moved_forms.proofs.Forms.{form_between}
-use Rattle.moved_forms.proofs.alike.last_alike.Goals.{then-high-last, else-high-last}
-use Rattle.moved_forms.proofs.alike.last_alike.Goals as goal
+use Rattle.moved_forms.proofs.alike.last_formula.Goals.{then-high-last, else-high-last}
+use Rattle.moved_forms.proofs.alike.last_formula.Goals as goal
 
 pub loop-low-preserved-then-branch : goal.loop-low-preserved-then-branch
 loop-low-preserved-then-branch c =
