@@ -1,5 +1,5 @@
 -- A column of a book, with its groups and codes, of which rows below a cell are filled with copies of a slot.
-use Rattle.std.proofs.Common.{◌≡◌, ℕ, zero, suc, ◌+◌, ◌-◌, ◌≤◌, ◌<◌, ◌==◌, true, false, cond, List, [], ◌++◌, length, take, drop, map, replicate, refl, sym, ap, subst, ◌∙◌, arith}
+use Rattle.std.proofs.Common.{◌≡◌, ℕ, ◌+◌, ◌-◌, ◌≤◌, ◌<◌, ◌==◌, true, false, cond, List, [], ◌++◌, length, take, drop, map, replicate, refl, sym, ap, subst, ◌∙◌, arith}
 use Rattle.std.specs.Prelude.{count_by, slice_index_or, slice_set, sum_by}
 use Rattle.std.proofs.lemmas.List.{length-replicate}
 use Rattle.std.proofs.lemmas.List.Sums.{get_or-le-sum_by, sum_by-le-sum_by}
@@ -19,14 +19,14 @@ use Rattle.cell_columns.specs.Filled.{FitsRows, repeated}
 use Rattle.cell_columns.specs.Lent.{AreColumns, codes_of, slots_of}
 use Rattle.cell_columns.specs.Sheets.{AreSheets}
 use Rattle.cell_columns.specs.Taken.{AreReplaced}
-use Rattle.cell_columns.specs.Uses.{cell_of, code_in, codes_in, formula_of, formulas_in, summed, use_of, uses_in}
+use Rattle.cell_columns.specs.Uses.{cell_of, codes_in, formula_of, formulas_in, summed, use_of, uses_in}
 use Rattle.cell_columns.proofs.Clearing.{column_is, entries_are_codes}
 use Rattle.cell_columns.proofs.Counted.{counted}
 use Rattle.cell_columns.proofs.Edited.{number_in}
 use Rattle.cell_columns.proofs.FilledRows.{cells_filled, few_filled, sheets_filled}
 use Rattle.cell_columns.proofs.Groups.{codes_put}
 use Rattle.cell_columns.proofs.Maps.{index_any, length_map, map_same, map_set}
-use Rattle.cell_columns.proofs.PutRows.{column_put, sum_rows, summed_rows}
+use Rattle.cell_columns.proofs.PutRows.{sum_rows, summed_rows}
 use Rattle.cell_columns.proofs.Same.{columns_same, formulas_few}
 use Rattle.cell_columns.proofs.Setting.{count_is_sum}
 

@@ -9,7 +9,6 @@ use Rattle.calc_model.specs.Books.{is_content}
 use Rattle.calc_model.specs.declared.content.Content.TheVariants as content
 use Rattle.formula_code.specs.Codes.{Codes, IsCodeAt, IsLive, code_at, form_at, has_valid_references, slot_uses, total_uses, uses_at}
 use Rattle.formula_code.specs.Relative.{absolute}
-use Rattle.block_column.specs.declared.slot.Slot.{Slot}
 use Rattle.block_column.specs.declared.slot.Slot.TheVariants as slot
 use Rattle.block_column.specs.Kinds.{is_filled}
 use Rattle.kept_codes.specs.declared.cells.TheConstants.{COLUMNS}

@@ -1,5 +1,5 @@
 -- A slot that is repeated in rows in which a moved formula has one relative form.
-use Rattle.std.proofs.Common.{◌≡◌, ℕ, zero, suc, ◌+◌, ◌-◌, ◌≤◌, ◌<◌, Bool, true, cond, List, [], ◌∷◌, length, map, refl, sym, ap, subst, ◌∙◌, arith}
+use Rattle.std.proofs.Common.{◌≡◌, ℕ, zero, suc, ◌+◌, ◌-◌, ◌≤◌, ◌<◌, true, cond, List, ◌∷◌, map, refl, sym, ap, subst, ◌∙◌, arith}
 use Rattle.std.specs.List.{range_with_len}
 use Rattle.std.specs.BTreeMap.{insert_entry, is_at}
 use Rattle.std.specs.Map.{remove_entry}
@@ -28,7 +28,7 @@ use Rattle.cell_columns.specs.Sheets.{AreSheets, IsFit}
 use Rattle.calc_model.proofs.Reached.{same_cell}
 use Rattle.cell_columns.proofs.FilledCells.{inserted}
 use Rattle.cell_columns.proofs.FilledRows.{in_column}
-use Rattle.cell_columns.proofs.FormulaRows.{from_first}
+use Rattle.kept_codes.proofs.FormulaRows.{from_first}
 use Rattle.cell_columns.proofs.SheetShifted.{held_filled}
 
 pub moved_held : (from to : Place) (content : Content) → is_held content ≡ true → is_held (moved_content from to content) ≡ true

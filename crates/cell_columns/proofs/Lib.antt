@@ -17,13 +17,13 @@
 -- Repeating: copies of a slot in neighbouring rows. FilledCells, FilledRows, ColumnFilled, FilledAlike: what cells hold with them.
 -- Walks: the cells of some rows of columns. Filled: rows that hold something.
 -- CountsMore: cells of an area that are counted and listed.
--- FormulaRows: the cells of groups and of rows with codes. FormulaPlaces: they are those that hold formulas.
+-- FormulaPlaces: the cells with codes are those that hold formulas.
 -- Looked: what is lent of a cell's content.
 -- Listed: cells that are listed with what they hold.
 -- Told: the cells of columns are those of a book, which slots decide.
 -- Restored: cells that are emptied and set again. SetShifted: cells that are set after a change of rows.
 -- RowsChanged: the formulas that don't keep their codes. RowsKept: cells that stay in their sheet.
--- RunRows: runs lie in their column. FormRuns: runs of codes are runs of forms. Downwards: the rows of a column and its cells.
+-- FormRuns: runs of codes are runs of forms. Downwards: the rows of a column and its cells.
 pub mod Orders
 pub mod Found
 pub mod Edited
@@ -53,11 +53,9 @@ pub mod FilledAlike
 pub mod Walks
 pub mod Filled
 pub mod CountsMore
-pub mod FormulaRows
 pub mod FormulaPlaces
 pub mod Looked
 pub mod Listed
-pub mod RunRows
 pub mod FormRuns
 pub mod CodedCells
 pub mod ColumnSlots

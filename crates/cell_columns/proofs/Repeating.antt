@@ -1,5 +1,5 @@
 -- Uses of codes that are taken by copies of a slot, and the codes of its rows.
-use Rattle.std.proofs.Common.{◌≡◌, ℕ, zero, suc, ◌+◌, ◌-◌, ◌*◌, ◌≤◌, ◌==◌, true, false, cond, List, [], ◌∷◌, ◌++◌, drop, take, Option, Some, None, refl, sym, ap, subst, ◌∙◌, arith}
+use Rattle.std.proofs.Common.{◌≡◌, ℕ, zero, suc, ◌+◌, ◌-◌, ◌*◌, ◌≤◌, ◌==◌, true, false, cond, List, ◌∷◌, ◌++◌, drop, take, Some, None, refl, sym, ap, subst, ◌∙◌, arith}
 use Rattle.std.specs.Prelude.{IsSome, replicate, sum_by}
 use Rattle.std.proofs.lemmas.Bool.Decides.{Decides-eqb}
 use Rattle.std.proofs.lemmas.List.Folds.{sum_by-replicate}
@@ -9,7 +9,7 @@ use Rattle.formula_groups.specs.declared.group.Group.{Group}
 use Rattle.formula_groups.specs.Groups.{groups_of}
 use Rattle.cell_columns.specs.Freed.{formulas_among, uses_among}
 use Rattle.cell_columns.proofs.Among.{formulas_alike, uses_alike}
-use Rattle.formula_code.specs.Codes.{Changes, Code, Codes, IsLive, code_at, form_at, slot_uses, uses_at, with_uses}
+use Rattle.formula_code.specs.Codes.{Changes, Codes, IsLive, form_at, slot_uses, uses_at, with_uses}
 use Rattle.formula_code.proofs.Totals.{uses_changed}
 use Rattle.calc_model.specs.declared.tree.Tree.{Tree}
 use Rattle.block_column.specs.declared.slot.Slot.{Slot}

@@ -19,7 +19,7 @@ ghost use Rattle.moved_forms.specs.Alike.{AreOneSide};
 use crate::cells::column_number;
 use crate::columns::CellColumns;
 use crate::reading::slot_copy;
-use crate::release::release;
+use crate::slots::release;
 use block_column::{BlockColumn, Slot};
 use calc_addr::{Cell, NoMemory};
 use calc_model::Content;

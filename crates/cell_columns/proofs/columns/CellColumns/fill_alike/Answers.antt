@@ -1,7 +1,7 @@
-use Rattle.std.proofs.Common.{◌≡◌, ℕ, ◌+◌, ◌-◌, ◌≤◌, length, true, sym, ap, subst, ◌∙◌, arith}
-use Rattle.calc_addr.specs.Places.{IsPlace, Place, column_places}
+use Rattle.std.proofs.Common.{◌≡◌, ◌+◌, ◌≤◌, length, sym, ap, subst, ◌∙◌, arith}
+use Rattle.calc_addr.specs.Places.{Place, column_places}
 use Rattle.calc_model.specs.declared.content.Content.{Content}
-use Rattle.calc_model.specs.Books.{content_at, is_held, with_content}
+use Rattle.calc_model.specs.Books.{content_at}
 use Rattle.calc_model.specs.CellEdits.{CellEntries, moved_content, with_entries}
 use Rattle.calc_model.proofs.BooksKept.{longer_by_one}
 use Rattle.block_column.specs.declared.slot.Slot.{Slot}

@@ -5,7 +5,7 @@ use Rattle.formula_groups.specs.Groups.{no_codes}
 use Rattle.kept_codes.specs.declared.cells.TheConstants.{COLUMNS}
 use Rattle.cell_columns.specs.Lent.{codes_of}
 use Rattle.cell_columns.proofs.Nothing.{map_more, replicate_more}
-use Rattle.cell_columns.proofs.making.empty_groups.Goals as goal
+use Rattle.cell_columns.proofs.columns.empty_groups.Goals as goal
 
 pub loop-preserved : goal.loop-preserved
 loop-preserved c =

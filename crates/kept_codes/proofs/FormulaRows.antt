@@ -6,7 +6,7 @@ use Rattle.std.specs.List.{All, AllByRecursion, AllPairs, range_with_len}
 use Rattle.std.specs.Ordering.{is_lt}
 use Rattle.std.specs.declared.cmp.Ordering.{Ordering}
 use Rattle.std.specs.declared.cmp.Ordering.TheVariants.{Less, Equal, Greater}
-use Rattle.std.proofs.lemmas.Bool.Decides.{Decides-eqb}
+use Rattle.std.proofs.lemmas.Bool.Decides.{Decides-eqb, nat_tests}
 use Rattle.std.proofs.lemmas.List.{append_assoc, append-nil, get_or_append_left}
 use Rattle.std.proofs.Math.Seq.{get_or-append_seam}
 use Rattle.std.proofs.lemmas.List.{length-append}
@@ -23,9 +23,14 @@ use Rattle.run_tables.proofs.RunLists.{runs-rise}
 use Rattle.formula_groups.specs.Groups.{a_group, groups_of}
 use Rattle.formula_groups.specs.declared.group.Group.{Group}
 use Rattle.kept_codes.specs.Columns.{cell_in}
-use Rattle.cell_columns.specs.FormulaCells.{all_coded, cells_of_groups, rows_in}
-use Rattle.cell_columns.proofs.Orders.{columns_rise, rows_rise}
-use Rattle.cell_columns.proofs.RunRows.{LieIn, each_is, runs_lie}
+use Rattle.kept_codes.specs.FormulaCells.{all_coded, cells_of_groups, rows_in}
+use Rattle.kept_codes.proofs.RunRows.{LieIn, each_is, runs_lie}
+
+rows_rise : (number row lower : ℕ) → row < lower → is_lt (place_cmp (cell_in number row) (cell_in number lower)) ≡ true
+rows_rise number row lower h = grind (arith, nat_tests)
+
+columns_rise : (number next row other : ℕ) → number < next → is_lt (place_cmp (cell_in number row) (cell_in next other)) ≡ true
+columns_rise number next row other h = grind (arith, nat_tests)
 
 -- those before others come before the first of these
 pub before_first : (ps qs : List Place) (q : Place) → AllPairs IsBefore (ps ++ q ∷ qs) → All (λ p. IsBefore p q) ps

@@ -1,6 +1,6 @@
 use Rattle.std.proofs.Common.{◌≡◌, ◌++◌, drop}
-use Rattle.cell_columns.specs.FormulaCells.{cells_of_groups}
-use Rattle.cell_columns.proofs.formulas.push_groups.Given as goal
+use Rattle.kept_codes.specs.FormulaCells.{cells_of_groups}
+use Rattle.kept_codes.proofs.grouped.push_groups.Given as goal
 
 -- with the cells of the groups behind, all are there
 abbrev pub invariant-loop-group : goal.invariant-loop-group

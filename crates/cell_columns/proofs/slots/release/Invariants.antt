@@ -1,7 +1,7 @@
 use Rattle.std.proofs.Common.{take}
 use Rattle.cell_columns.specs.Freed.{formulas_among, uses_among}
 use Rattle.cell_columns.specs.Taken.{AreFreed}
-use Rattle.cell_columns.proofs.release.release.Given as goal
+use Rattle.cell_columns.proofs.slots.release.Given as goal
 
 -- the uses by the groups so far are gone
 abbrev pub invariant-loop-group : goal.invariant-loop-group

@@ -5,7 +5,7 @@ use Rattle.block_column.specs.Tables.{no_slots}
 use Rattle.kept_codes.specs.declared.cells.TheConstants.{COLUMNS}
 use Rattle.cell_columns.specs.Lent.{slots_of}
 use Rattle.cell_columns.proofs.Nothing.{map_more, replicate_more}
-use Rattle.cell_columns.proofs.making.empty_columns.Goals as goal
+use Rattle.cell_columns.proofs.columns.empty_columns.Goals as goal
 
 pub loop-preserved : goal.loop-preserved
 loop-preserved c =

@@ -5,8 +5,8 @@ use Rattle.cell_columns.specs.Taken.{AreFreed}
 use Rattle.cell_columns.proofs.Edited.{live}
 use Rattle.cell_columns.proofs.Freeing.{enough, freed_more, freed_past}
 use Rattle.cell_columns.proofs.Uses.{freed_uses}
-use Rattle.cell_columns.proofs.release.release.Goals.{then-from-to, else-from-to}
-use Rattle.cell_columns.proofs.release.release.Goals as goal
+use Rattle.cell_columns.proofs.slots.release.Goals.{then-from-to, else-from-to}
+use Rattle.cell_columns.proofs.slots.release.Goals as goal
 
 pub give_back-requires-clause-live : goal.give_back-requires-clause-live
 give_back-requires-clause-live c =

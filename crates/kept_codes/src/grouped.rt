@@ -5,13 +5,13 @@ ghost use Rattle.calc_addr.specs.declared.cell.TheConstants.{LAST_ROW};
 ghost use Rattle.calc_addr.specs.Places.{IsBefore};
 ghost use Rattle.run_tables.specs.Rows.{AreRows};
 ghost use Rattle.formula_groups.specs.declared.group.Group.{Group};
-ghost use Rattle.cell_columns.specs.FormulaCells.{all_coded, cells_of_groups, rows_in};
-ghost use Rattle.cell_columns.specs.Lent.{codes_of};
+ghost use Rattle.kept_codes.specs.FormulaCells.{all_coded, cells_of_groups, rows_in};
+ghost use Rattle.formula_groups.specs.GroupRows.{columns_of};
 
+use crate::cells::{COLUMNS, cell_in};
 use calc_addr::{NoMemory, Run};
 use cell_runs::CellRuns;
 use formula_groups::{Group, GroupColumn};
-use kept_codes::{COLUMNS, cell_in};
 use std::alloc::Global;
 
 /// The rows of a group in its column.
@@ -43,11 +43,11 @@ fn push_groups(number: usize, groups: &[Group], out: &mut CellRuns) -> Result<()
 }
 
 /// The cells of the groups of all columns, in the order of cells. Linear in the groups and in the columns.
-pub(crate) fn grouped_cells(alloc: Global, groups: &[GroupColumn]) -> Result<CellRuns, NoMemory>
+pub fn grouped_cells(alloc: Global, groups: &[GroupColumn]) -> Result<CellRuns, NoMemory>
     requires all { length groups.now ≡ COLUMNS }
     requires long { (number : ℕ) → number < COLUMNS
-        → length (slice_index_or (codes_of groups.now) number []) ≡ LAST_ROW }
-    ensures { IfOk result (λ cells. cells ≡ all_coded 0 (codes_of groups.now)) }
+        → length (slice_index_or (columns_of groups.now) number []) ≡ LAST_ROW }
+    ensures { IfOk result (λ cells. cells ≡ all_coded 0 (columns_of groups.now)) }
 {
     let mut cells = CellRuns::new(alloc);
     for number in 0..COLUMNS {

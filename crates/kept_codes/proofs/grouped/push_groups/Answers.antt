@@ -5,9 +5,9 @@ use Rattle.calc_addr.specs.Places.{IsBefore}
 use Rattle.run_tables.specs.Rows.{AreRows}
 use Rattle.formula_groups.specs.declared.group.Group.{Group}
 use Rattle.cell_runs.specs.CellLists.{LieBefore}
-use Rattle.cell_columns.specs.FormulaCells.{cells_of_groups}
-use Rattle.cell_columns.proofs.FormulaRows.{behind_all}
-use Rattle.cell_columns.proofs.formulas.push_groups.Goals as goal
+use Rattle.kept_codes.specs.FormulaCells.{cells_of_groups}
+use Rattle.kept_codes.proofs.FormulaRows.{behind_all}
+use Rattle.kept_codes.proofs.grouped.push_groups.Goals as goal
 
 pub push-requires : goal.push-requires
 push-requires c =
