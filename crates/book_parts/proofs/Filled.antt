@@ -1,8 +1,8 @@
 -- Contents that are put into neighbouring rows, some rows after the other.
-use Rattle.std.proofs.Common.{◌≡◌, ℕ, zero, suc, ◌+◌, ◌-◌, ◌≤◌, List, [], ◌∷◌, ◌++◌, length, map, refl, sym, ap, ◌∙◌, arith}
+use Rattle.std.proofs.Common.{◌≡◌, ℕ, zero, suc, ◌+◌, ◌-◌, ◌≤◌, List, [], ◌∷◌, ◌++◌, length, map, ap, ◌∙◌, arith}
 use Rattle.std.specs.List.{flat_map, range_with_len}
 use Rattle.std.specs.BTreeMap.{insert_entry}
-use Rattle.std.proofs.lemmas.List.{length-append, length-map, map-append}
+use Rattle.std.proofs.lemmas.List.{length-map, map-append}
 use Rattle.std.proofs.lemmas.List.FromFn.{length-range_with_len}
 use Rattle.std.proofs.lemmas.List.Sums.{fold-append}
 use Rattle.calc_addr.specs.Places.{Place, column_places, from_to, place_cmp}
@@ -17,7 +17,7 @@ inserts_few [] es = omega arith
 inserts_few (e ∷ news) es = omega (arith, inserts_few news (insert_entry place_cmp es e.0 e.1), length-inserted place_cmp e.0 e.1 es)
 
 more_numbers : (first m n : ℕ) → range_with_len first (m + n) ≡ range_with_len first m ++ range_with_len (first + m) n
-more_numbers first zero n = ap (λ k. range_with_len k n) (none_more first) ∙ ap (range_with_len (first + 0)) (no_more n)
+more_numbers first zero n = ap (range_with_len first) (no_more n) ∙ ap (λ k. range_with_len k n) (none_more first)
   where
     none_more : (k : ℕ) → k ≡ k + 0
     none_more k = omega arith

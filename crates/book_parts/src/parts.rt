@@ -319,6 +319,7 @@ impl BookParts {
         ensures names { self.new.names ≡ self.old.names }
         ensures book { IsBook self.new }
     {
+        let from_row = from.row;
         let mut row = rows.first;
         while row <= rows.last {
             let cell = Cell {
@@ -326,8 +327,8 @@ impl BookParts {
                 col: rows.col,
                 row,
             };
-            let last = if row < from.row {
-                rows.last.min(from.row)
+            let last = if row < from_row {
+                rows.last.min(from_row)
             } else {
                 rows.last
             };

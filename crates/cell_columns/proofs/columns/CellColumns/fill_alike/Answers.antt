@@ -1,17 +1,17 @@
-use Rattle.std.proofs.Common.{◌≡◌, ◌+◌, ◌≤◌, length, sym, ap, subst, ◌∙◌, arith}
-use Rattle.calc_addr.specs.Places.{Place, column_places}
+use Rattle.std.proofs.Common.{◌≡◌, ◌+◌, ◌≤◌, List, length, sym, ap, subst, ◌∙◌, arith}
+use Rattle.calc_addr.specs.Places.{IsPlace, Place, column_places}
 use Rattle.calc_model.specs.declared.content.Content.{Content}
-use Rattle.calc_model.specs.Books.{content_at}
+use Rattle.calc_model.specs.Books.{content_at, is_held, with_content}
 use Rattle.calc_model.specs.CellEdits.{CellEntries, moved_content, with_entries}
 use Rattle.calc_model.proofs.BooksKept.{longer_by_one}
+use Rattle.formula_code.specs.Codes.{Codes}
 use Rattle.block_column.specs.declared.slot.Slot.{Slot}
 use Rattle.block_column.specs.Kinds.{is_filled}
-use Rattle.cell_columns.specs.Cells.{cells_of, cells_only, content_of, slot_at}
+use Rattle.cell_columns.specs.Cells.{Column, cells_of, cells_only, content_of, slot_at}
 use Rattle.cell_columns.specs.Filled.{FitsRows, moved_entries, repeated}
 use Rattle.cell_columns.specs.Lent.{slots_of}
 use Rattle.cell_columns.proofs.FilledAlike.{filled_here, fits_rows, held_here, moved_held, repeated_is, with_first, with_none}
 use Rattle.cell_columns.proofs.Told.{holds}
-use Rattle.cell_columns.proofs.columns.CellColumns.fill_alike.Goals.{After-slot-2-1}
 use Rattle.cell_columns.proofs.columns.CellColumns.fill_alike.Goals as goal
 
 pub returns-then-end-cell-clause-cells : goal.returns-then-end-cell-clause-cells
@@ -21,24 +21,22 @@ returns-then-end-cell-clause-cells c =
     ∙ with_none c.args.self.now c.args.from c.args.cell c.args.content.now (moved_held c.args.from c.args.cell c.args.content.now c.requires.held)
     ∙ ap (λ row. with_entries c.args.self.now (moved_entries c.args.from c.args.content.now (column_places c.args.cell.sheet c.args.cell.col c.args.cell.row row))) (sym at)
 
-slot_is : (c : After-slot-2-1) → c.in_ok-slot.slot ≡ slot_at (slots_of c.self.inside.columns.items) c.args.cell
-slot_is c = c.in_ok-slot.ensures.slot ∙ ap (λ cs. slot_at (slots_of cs) c.args.cell) c.deref.ensures.value
-
-here : (c : After-slot-2-1) → content_of c.self.inside.table c.args.cell (slot_at (slots_of c.self.inside.columns.items) c.args.cell) ≡ moved_content c.args.from c.args.cell c.args.content.now
-here c =
-    sym (holds c.self.inside.table (slots_of c.self.inside.columns.items) c.args.cell c.in_ok-slot.ensures.place)
-    ∙ ap (λ (es : CellEntries). content_at (cells_only es) c.args.cell) (c.self.view_is ∙ c.in_ok-set_moved.ensures)
-    ∙ held_here c.args.self.now c.args.cell (moved_content c.args.from c.args.cell c.args.content.now) (moved_held c.args.from c.args.cell c.args.content.now c.requires.held)
+-- what the cell holds, by its slot
+here : (codes : Codes) (columns : List Column) (cell from : Place) → IsPlace cell → (content : Content) → is_held content ≡ true → (old : CellEntries) → cells_of codes columns ≡ with_content old cell (moved_content from cell content) → content_of codes cell (slot_at columns cell) ≡ moved_content from cell content
+here codes columns cell from is content held old set =
+    sym (holds codes columns cell is)
+    ∙ ap (λ (es : CellEntries). content_at (cells_only es) cell) set
+    ∙ held_here old cell (moved_content from cell content) (moved_held from cell content held)
 
 pub repeat_below-requires-clause-held : goal.repeat_below-requires-clause-held
 repeat_below-requires-clause-held c =
-    ap is_filled (slot_is c)
-    ∙ filled_here c.self.inside.table (slots_of c.self.inside.columns.items) c.self.invariant.sheets c.args.cell c.in_ok-slot.ensures.place c.args.from c.args.content.now c.in_ok-end.end c.in_ok-end.ensures.formed c.in_ok-end.ensures.alike (here c) c.requires.held
+    ap is_filled (c.in_ok-slot.ensures.slot ∙ ap (λ cs. slot_at (slots_of cs) c.args.cell) c.deref.ensures.value)
+    ∙ filled_here c.self.inside.table (slots_of c.self.inside.columns.items) c.self.invariant.sheets c.args.cell c.in_ok-slot.ensures.place c.args.from c.args.content.now c.in_ok-end.end c.in_ok-end.ensures.formed c.in_ok-end.ensures.alike (here c.self.inside.table (slots_of c.self.inside.columns.items) c.args.cell c.args.from c.in_ok-slot.ensures.place c.args.content.now c.requires.held c.args.self.now (c.self.view_is ∙ c.in_ok-set_moved.ensures)) c.requires.held
 
 pub repeat_below-requires-clause-fits : goal.repeat_below-requires-clause-fits
 repeat_below-requires-clause-fits c =
-    subst (λ (x : Slot). FitsRows c.self.inside.table c.args.cell (c.args.cell.row + 1) c.in_ok-end.end x) (sym (slot_is c))
-    (fits_rows c.self.inside.table (slots_of c.self.inside.columns.items) c.self.invariant.sheets c.args.cell c.in_ok-slot.ensures.place c.args.from c.args.content.now c.in_ok-end.end c.in_ok-end.ensures.formed c.in_ok-end.ensures.alike (here c))
+    subst (λ (x : Slot). FitsRows c.self.inside.table c.args.cell (c.args.cell.row + 1) c.in_ok-end.end x) (sym (c.in_ok-slot.ensures.slot ∙ ap (λ cs. slot_at (slots_of cs) c.args.cell) c.deref.ensures.value))
+    (fits_rows c.self.inside.table (slots_of c.self.inside.columns.items) c.self.invariant.sheets c.args.cell c.in_ok-slot.ensures.place c.args.from c.args.content.now c.in_ok-end.end c.in_ok-end.ensures.formed c.in_ok-end.ensures.alike (here c.self.inside.table (slots_of c.self.inside.columns.items) c.args.cell c.args.from c.in_ok-slot.ensures.place c.args.content.now c.requires.held c.args.self.now (c.self.view_is ∙ c.in_ok-set_moved.ensures)))
 
 pub repeat_below-requires-clause-room : goal.repeat_below-requires-clause-room
 repeat_below-requires-clause-room c =
@@ -58,10 +56,7 @@ returns-clause-cells c =
     let content : Content = c.args.content.now in
     let slot : c.in_ok-slot.slot ≡ slot_at (slots_of c.self.inside.columns.items) c.args.cell = c.in_ok-slot.ensures.slot ∙ ap (λ cs. slot_at (slots_of cs) c.args.cell) c.deref.ensures.value in
     let below : c.args.cell.row + 1 ≤ c.in_ok-end.end = omega (arith, c.in_ok-end.ensures.from, c.if-end-cell.false, ap (λ (q : Place). q.row) c.cell.view_is) in
-    let moved : content_of c.self.inside.table c.args.cell (slot_at (slots_of c.self.inside.columns.items) c.args.cell) ≡ moved_content c.args.from c.args.cell content =
-    sym (holds c.self.inside.table (slots_of c.self.inside.columns.items) c.args.cell c.in_ok-slot.ensures.place)
-    ∙ ap (λ (es : CellEntries). content_at (cells_only es) c.args.cell) (c.self.view_is ∙ c.in_ok-set_moved.ensures)
-    ∙ held_here c.args.self.now c.args.cell (moved_content c.args.from c.args.cell content) (moved_held c.args.from c.args.cell content c.requires.held) in
+    let moved = here c.self.inside.table (slots_of c.self.inside.columns.items) c.args.cell c.args.from c.in_ok-slot.ensures.place content c.requires.held c.args.self.now (c.self.view_is ∙ c.in_ok-set_moved.ensures) in
     c.in_ok-self-inside.ensures.cells
     ∙ ap (λ (x : Slot). with_entries es (repeated c.self.inside.table c.args.cell (c.args.cell.row + 1) c.in_ok-end.end x)) slot
     ∙ ap (with_entries es) (repeated_is c.self.inside.table (slots_of c.self.inside.columns.items) c.self.invariant.sheets c.args.cell c.in_ok-slot.ensures.place c.args.from content c.in_ok-end.end c.in_ok-end.ensures.formed c.in_ok-end.ensures.alike moved below (omega (arith, c.in_ok-end.ensures.to, c.requires.to)))
