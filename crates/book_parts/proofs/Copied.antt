@@ -17,7 +17,7 @@ use Rattle.calc_model.specs.CellEdits.{CellEntries, after_copy, after_fill, area
 use Rattle.calc_model.proofs.Areas.{Inside, all_places, both_true, covered, inside}
 use Rattle.calc_model.proofs.BooksKept.{longer_by_one}
 use Rattle.calc_model.proofs.EntriesMoved.{all-filter, all-filtered, all-map, sorted-filter, sorted-moved}
-use Rattle.book_parts.specs.Runs.{moved_entries}
+use Rattle.cell_columns.specs.Filled.{moved_entries}
 use Rattle.book_parts.proofs.Inserted.{area_fresh, length-inserts, rising-sorted}
 
 -- a content that isn't empty is put in its place

@@ -7,6 +7,8 @@ mod Lengths
 -- one item after the other
 mod Steps
 pub mod Inserted
+-- rows that are filled
+mod Filled
 pub mod Copied
 -- what an edit leaves in the cells that it doesn't touch
 pub mod LeftCells

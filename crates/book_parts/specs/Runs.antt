@@ -1,19 +1,13 @@
 -- Cells of a book that are looked at in runs, and its formulas by their codes.
-use Rattle.std.specs.Prelude.{◌≡◌, ℕ, ◌+◌, ◌<◌, List, map}
+use Rattle.std.specs.Prelude.{◌≡◌, ℕ, ◌+◌, ◌<◌}
 use Rattle.calc_addr.specs.Places.{Place}
-use Rattle.calc_model.specs.declared.content.Content.{Content}
 use Rattle.calc_model.specs.declared.content.Content.TheVariants.{Empty, Formula}
 use Rattle.calc_model.specs.Books.{Book, content_at}
-use Rattle.calc_model.specs.CellEdits.{CellEntries, moved_content}
 use Rattle.formula_code.specs.Codes.{Codes, IsCodeAt, tree_at}
 
 -- so many cells of a column from that one on are empty
 abbrev pub AreEmpty : Book → Place → ℕ → Type 0
 AreEmpty book start count = (k : ℕ) → k < count → content_at book (record start { row = start.row + k }) ≡ Empty
-
--- a content, moved from a cell, in some cells
-abbrev pub moved_entries : Place → Content → List Place → CellEntries
-moved_entries from content cells = map (λ q. (q, moved_content from q content)) cells
 
 -- The formula of a cell is that of a code at it.
 pub record IsCodedIn (book : Book) (cell : Place) (codes : Codes) (id : ℕ) : Type 0 where

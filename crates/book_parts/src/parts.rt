@@ -1,9 +1,9 @@
 ghost use Rattle.std.specs.Prelude.{◌≡◌, ◌≤◌, ◌<◌, ◌+◌, ◌-◌, ◌↔◌, nat_le, [], false, true, length, IfNone, IfOk, IfSome, IsErrOf, IsTrue, OnOk, OnErr, Contains, map};
 ghost use Rattle.std.specs.List.{All, AllPairs, list_all};
 ghost use Rattle.calc_model.specs.Books.{IsBook, content_at, formula_count, is_formula, is_held, with_content};
-ghost use Rattle.calc_addr.specs.Places.{IsBefore, Place, places};
+ghost use Rattle.calc_addr.specs.Places.{IsBefore, Place, column_places, places};
 ghost use Rattle.calc_addr.specs.ValidReferences.{is_rectangle};
-ghost use Rattle.calc_model.specs.CellEdits.{after_copy, after_fill, area_at, moved_content, with_entries, without_area};
+ghost use Rattle.calc_model.specs.CellEdits.{after_copy, after_fill, area_at, with_entries, without_area};
 ghost use Rattle.calc_model.specs.Changes.{IsShift};
 ghost use Rattle.calc_model.specs.NamedAreas.{is_defined, names_after_deletion, names_after_insertion, with_name, without_name};
 ghost use Rattle.calc_model.specs.Tokens.{is_name};
@@ -12,16 +12,19 @@ ghost use Rattle.calc_model.specs.GeneratedBook.{generated_book};
 ghost use Rattle.calc_model.specs.RowEdits.{cells_after_deletion, cells_after_insertion, is_pushed_out};
 ghost use Rattle.formula_code.specs.Coded.{AreCoded, AreFormulasOf};
 ghost use Rattle.formula_groups.specs.GroupRows.{columns_of};
+ghost use Rattle.cell_columns.specs.Filled.{moved_entries};
+ghost use Rattle.moved_forms.specs.Alike.{AreOneSide};
+ghost use Rattle.cell_runs.specs.CellLists.{cells_of};
 ghost use Rattle.cell_columns.specs.ColumnRuns.{AllLie, IsSheetColumn, blocks_in, groups_in, rows_of_block, rows_of_group, rows_of_run};
 ghost use Rattle.cell_columns.specs.Looks.{AreSlotsOf, IsLent};
 ghost use Rattle.cell_columns.specs.Walks.{places_of};
-ghost use Rattle.book_parts.specs.Runs.{AreEmpty, IsCodedIn, moved_entries};
+ghost use Rattle.book_parts.specs.Runs.{AreEmpty, IsCodedIn};
 
 use crate::copies::{area_at, copied_entries};
 use crate::generated::generated;
 use crate::rows::{Rows, is_pushed_out};
 use block_column::{Block, BlockColumn, SlotRef};
-use calc_addr::{Area, Cell, LAST_ROW, LAST_SHEET, NoMemory};
+use calc_addr::{Area, Cell, LAST_ROW, LAST_SHEET, NoMemory, Run};
 use calc_model::{Content, Looked, MOST_CELLS, MOST_GENERATED_ROWS, NameTable, Text};
 use calc_names::{NameFault, Names};
 use cell_columns::{CellColumns, Coded, CodedGroups};
@@ -252,8 +255,9 @@ impl BookParts {
         left as u64 + area.cell_count() <= MOST_CELLS as u64
     }
 
-    /// Fills each cell of an area with the content of a cell, moved. It costs what the setting of each does.
-    /// Where memory is refused, some of the cells may be empty.
+    /// Fills each cell of an area with the content of a cell, moved. It is linear in the cells, and costs what the
+    /// setting of neighbouring rows in each column does, once for each relative form that the content has
+    /// there. Where memory is refused, some of the cells may be empty.
     pub fn fill(&mut self, alloc: Global, from: Cell, area: Area) -> Result<(), NoMemory>
         requires { length (after_fill self.old.cells from (content_at self.old from) area)
             ≤ MOST_CELLS }
@@ -286,29 +290,78 @@ impl BookParts {
         ensures names { self.new.names ≡ self.old.names }
         ensures book { IsBook self.new }
     {
-        for cell in area.cells() {
-            self.set_moved(alloc, from, content, cell)?;
+        for col in area.first_col..area.last_col + 1 {
+            let rows = Run {
+                sheet: area.sheet,
+                col,
+                first: area.first_row,
+                last: area.last_row,
+            };
+            self.put_rows(alloc, from, content, rows)?;
         }
         Ok(())
     }
 
-    /// Puts a content, moved from a cell, into another.
-    fn set_moved(
+    /// Puts a content that isn't empty, moved, into neighbouring rows of a column: once for each relative form
+    /// that it has there.
+    fn put_rows(
+        &mut self,
+        alloc: Global,
+        from: Cell,
+        content: &Content,
+        rows: Run,
+    ) -> Result<(), NoMemory>
+        requires book { IsBook self.old }
+        requires held { is_held content.now ≡ true }
+        requires room { length self.old.cells + (rows.last + 1 - rows.first) ≤ MOST_CELLS }
+        ensures cells { OnOk result (self.new.cells ≡ with_entries self.old.cells
+            (moved_entries from content.now (cells_of rows))) }
+        ensures names { self.new.names ≡ self.old.names }
+        ensures book { IsBook self.new }
+    {
+        let from_row = from.row;
+        let mut row = rows.first;
+        while row <= rows.last {
+            let cell = Cell {
+                sheet: rows.sheet,
+                col: rows.col,
+                row,
+            };
+            let last = if row < from_row {
+                rows.last.min(from_row)
+            } else {
+                rows.last
+            };
+            row = self.put_alike(alloc, from, content, cell, last)? + 1;
+        }
+        Ok(())
+    }
+
+    /// Puts a content that isn't empty, moved, into a cell and into those below it in which it has the same
+    /// relative form, down to the last at most. Gives the row of the last of these.
+    fn put_alike(
         &mut self,
         alloc: Global,
         from: Cell,
         content: &Content,
         cell: Cell,
-    ) -> Result<(), NoMemory>
-        requires book { IsBook self.old }
-        requires room { length self.old.cells < MOST_CELLS }
-        ensures cells { OnOk result (self.new.cells
-            ≡ with_content self.old.cells cell (moved_content from cell content.now)) }
+        last: u32,
+    ) -> Result<u32, NoMemory>
+        requires held { is_held content.now ≡ true }
+        requires order { cell.row ≤ last }
+        requires to { last ≤ LAST_ROW }
+        requires side { AreOneSide from.row cell.row last }
+        requires room { length self.old.cells + (last + 1 - cell.row) ≤ MOST_CELLS }
+        ensures from { IfOk result (λ row. cell.row ≤ row) }
+        ensures to { IfOk result (λ row. row ≤ last) }
+        ensures cells { IfOk result (λ row. self.new.cells ≡ with_entries self.old.cells
+            (moved_entries from content.now (column_places cell.sheet cell.col cell.row row))) }
         ensures names { self.new.names ≡ self.old.names }
         ensures book { IsBook self.new }
     {
-        let moved = content.moved(alloc, from, cell)?;
-        self.set(alloc, cell, &moved)
+        let put = self.cells.fill_alike(alloc, from, content, cell, last);
+        self.are_book();
+        put
     }
 
     /// Whether inserted rows would push a cell that isn't empty past the last row. Linear in the blocks of

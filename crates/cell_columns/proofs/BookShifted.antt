@@ -27,7 +27,8 @@ use Rattle.kept_codes.specs.RowChanges.{StaysIn, goes, sheet_of, tree_after}
 use Rattle.cell_columns.specs.Shifted.{AllKeepForms, AllStayIn, PartlyMoved, rows_moved, shifted}
 use Rattle.cell_columns.specs.Uses.{cell_of, codes_in, formula_of, summed, use_of}
 use Rattle.cell_columns.proofs.Counted.{counted}
-use Rattle.cell_columns.proofs.Edited.{IsFit, number_in}
+use Rattle.cell_columns.proofs.Edited.{number_in}
+use Rattle.cell_columns.specs.Sheets.{IsFit}
 use Rattle.cell_columns.proofs.ColumnShifted.{off_sheet, on_sheet}
 use Rattle.cell_columns.proofs.RowParts.{Fits, Rows, row_at, shifted_append}
 use Rattle.kept_codes.proofs.Going.{place_goes}

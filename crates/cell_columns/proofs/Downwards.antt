@@ -18,7 +18,7 @@ use Rattle.cell_columns.specs.Sheets.{AreSheets}
 use Rattle.cell_columns.specs.Uses.{code_in, codes_in}
 use Rattle.cell_columns.proofs.FormRuns.{AllGood, form_runs, rekeyed}
 use Rattle.cell_columns.proofs.Maps.{index_any, length_map, map_at}
-use Rattle.cell_columns.proofs.RunRows.{LieIn, each_is, runs_lie}
+use Rattle.kept_codes.proofs.RunRows.{LieIn, each_is, runs_lie}
 use Rattle.cell_columns.proofs.Told.{holds}
 use Rattle.formula_code.proofs.StayingForms.{form_forth}
 

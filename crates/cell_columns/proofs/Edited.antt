@@ -9,12 +9,11 @@ use Rattle.calc_model.specs.Books.{is_content}
 use Rattle.calc_model.specs.declared.content.Content.TheVariants as content
 use Rattle.formula_code.specs.Codes.{Codes, IsCodeAt, IsLive, code_at, form_at, has_valid_references, slot_uses, total_uses, uses_at}
 use Rattle.formula_code.specs.Relative.{absolute}
-use Rattle.block_column.specs.declared.slot.Slot.{Slot}
 use Rattle.block_column.specs.declared.slot.Slot.TheVariants as slot
 use Rattle.block_column.specs.Kinds.{is_filled}
 use Rattle.kept_codes.specs.declared.cells.TheConstants.{COLUMNS}
 use Rattle.cell_columns.specs.Cells.{Column, column_at, column_number, content_of, slot_at}
-use Rattle.cell_columns.specs.Sheets.{AreSheets}
+use Rattle.cell_columns.specs.Sheets.{AreSheets, IsFit}
 use Rattle.cell_columns.specs.Uses.{formulas_in, use_of, uses_in}
 
 -- a code with a use is live
@@ -48,11 +47,6 @@ module _ (columns : List Column) (all : length columns ≡ COLUMNS) (rows : (num
       get_or-le-sum_by (λ c. sum_by (use_of id) c) columns (column_number q) [] (within q is columns all) in
       let counted : use_of id (slot_at columns q) ≡ 1 = ap (use_of id) here ∙ one id in
       omega (arith, row, column, counted)
-
--- a slot that is put into a cell: its code is one there, and it is what a cell can hold
-pub record IsFit (codes : Codes) (q : Place) (x : Slot) : Type 0 where
-  pub coded : (id : ℕ) → x ≡ slot.Formula id → IsCodeAt codes id q
-  pub fit : is_filled x ≡ true → is_content (content_of codes q x) ≡ true
 
 module _ (old new : Codes) (before after : List Column) (was : AreSheets old before) (forms : (id : ℕ) → IsLive old id → IsLive new id → form_at new id ≡ form_at old id) (all : length after ≡ COLUMNS) (rows : (number : ℕ) → number < COLUMNS → length (column_at after number) ≡ LAST_ROW) (used : (id : ℕ) → uses_at new id ≡ uses_in id after) where
   live_after : (q : Place) → IsPlace q → (id : ℕ) → slot_at after q ≡ slot.Formula id → IsLive new id

@@ -21,7 +21,7 @@ use Rattle.cell_columns.specs.Cells.{Column, cells_of, cells_only, column_at, co
 use Rattle.cell_columns.specs.Emptied.{lies_in, without_rows}
 use Rattle.cell_columns.specs.Sheets.{AreSheets}
 use Rattle.cell_columns.specs.Taken.{AreReturned}
-use Rattle.cell_columns.proofs.Edited.{IsFit}
+use Rattle.cell_columns.specs.Sheets.{IsFit}
 use Rattle.cell_columns.proofs.Nothing.{each_of}
 use Rattle.cell_columns.proofs.SetRows.{each_content, sheets_put}
 use Rattle.cell_columns.proofs.Told.{holds, is_book, same_cells}

@@ -17,11 +17,11 @@ use Rattle.block_column.specs.declared.slot.Slot.TheVariants as slot
 use Rattle.kept_codes.specs.declared.cells.TheConstants.{COLUMNS}
 use Rattle.kept_codes.specs.Columns.{cell_in}
 use Rattle.cell_columns.specs.Cells.{Column, cells_of, cells_only, column_at, column_number, content_of, slot_at}
-use Rattle.cell_columns.specs.FormulaCells.{all_coded, cells_of_groups}
+use Rattle.kept_codes.specs.FormulaCells.{all_coded, cells_of_groups}
 use Rattle.cell_columns.specs.Sheets.{AreSheets}
 use Rattle.cell_columns.specs.Uses.{code_in, codes_in}
 use Rattle.cell_columns.proofs.Edited.{number_in}
-use Rattle.cell_columns.proofs.FormulaRows.{by_rows, coded_rows}
+use Rattle.kept_codes.proofs.FormulaRows.{by_rows, coded_rows}
 use Rattle.cell_columns.proofs.Told.{entries_are, entry_found, holds, number_of, place_in, place_is, row_behind, tested_place}
 
 abbrev Holds : Codes → List Column → Place → Type 0

@@ -14,15 +14,16 @@
 -- EmptyRows: rows of a column that are emptied.
 -- Rooms: columns that are emptied one after the other.
 -- Clearing: a column that is emptied between two rows, with its groups and codes.
+-- Repeating: copies of a slot in neighbouring rows. FilledCells, FilledRows, ColumnFilled, FilledAlike: what cells hold with them.
 -- Walks: the cells of some rows of columns. Filled: rows that hold something.
 -- CountsMore: cells of an area that are counted and listed.
--- FormulaRows: the cells of groups and of rows with codes. FormulaPlaces: they are those that hold formulas.
+-- FormulaPlaces: the cells with codes are those that hold formulas.
 -- Looked: what is lent of a cell's content.
 -- Listed: cells that are listed with what they hold.
 -- Told: the cells of columns are those of a book, which slots decide.
 -- Restored: cells that are emptied and set again. SetShifted: cells that are set after a change of rows.
 -- RowsChanged: the formulas that don't keep their codes. RowsKept: cells that stay in their sheet.
--- RunRows: runs lie in their column. FormRuns: runs of codes are runs of forms. Downwards: the rows of a column and its cells.
+-- FormRuns: runs of codes are runs of forms. Downwards: the rows of a column and its cells.
 pub mod Orders
 pub mod Found
 pub mod Edited
@@ -44,14 +45,17 @@ pub mod Among
 pub mod EmptyRows
 pub mod Rooms
 pub mod Clearing
+pub mod Repeating
+pub mod FilledCells
+pub mod FilledRows
+pub mod ColumnFilled
+pub mod FilledAlike
 pub mod Walks
 pub mod Filled
 pub mod CountsMore
-pub mod FormulaRows
 pub mod FormulaPlaces
 pub mod Looked
 pub mod Listed
-pub mod RunRows
 pub mod FormRuns
 pub mod CodedCells
 pub mod ColumnSlots

@@ -14,7 +14,7 @@ use Rattle.kept_codes.specs.Columns.{cell_in}
 use Rattle.cell_columns.specs.Cells.{Column, cells_below, content_of}
 use Rattle.kept_codes.specs.RowChanges.{goes, tree_after}
 use Rattle.cell_columns.specs.Shifted.{shifted}
-use Rattle.cell_columns.proofs.Edited.{IsFit}
+use Rattle.cell_columns.specs.Sheets.{IsFit}
 
 same_row : (r : ℕ) → r + 0 ≡ r
 same_row r = omega arith

@@ -23,11 +23,11 @@ use Rattle.block_column.specs.declared.slot.Slot.TheVariants as slot
 use Rattle.block_column.specs.Kinds.{is_filled}
 use Rattle.kept_codes.specs.declared.cells.TheConstants.{COLUMNS}
 use Rattle.cell_columns.specs.Cells.{Column, cells_of, cells_only, column_at, content_of, slot_at, with_slot}
-use Rattle.cell_columns.specs.Sheets.{AreSheets}
+use Rattle.cell_columns.specs.Sheets.{AreSheets, IsFit}
 use Rattle.cell_columns.specs.Taken.{AreReturned, IsSlotOf, KeepsForms}
 use Rattle.cell_columns.specs.Uses.{formula_of, formulas_in, use_of, uses_in}
 use Rattle.cell_columns.proofs.Orders.{in_order}
-use Rattle.cell_columns.proofs.Edited.{IsFit, live, same_content, stands, still_sheets}
+use Rattle.cell_columns.proofs.Edited.{live, same_content, stands, still_sheets}
 use Rattle.cell_columns.proofs.PutSlot.{at_cell, elsewhere, put_all, put_rows, summed_put}
 use Rattle.cell_columns.proofs.Contents.{set_content}
 use Rattle.cell_columns.proofs.Told.{holds, is_book, place_test, same_cells}

@@ -14,10 +14,10 @@ use Rattle.block_column.specs.declared.slot.Slot.TheVariants as slot
 use Rattle.block_column.specs.Kinds.{is_filled}
 use Rattle.kept_codes.specs.declared.cells.TheConstants.{COLUMNS}
 use Rattle.cell_columns.specs.Cells.{Column, column_at, column_number, content_of, slot_at, with_rows}
-use Rattle.cell_columns.specs.Sheets.{AreSheets}
+use Rattle.cell_columns.specs.Sheets.{AreSheets, IsFit}
 use Rattle.cell_columns.specs.Taken.{AreReturned, AreTaken, KeepsForms}
 use Rattle.cell_columns.specs.Uses.{formula_of, formulas_in, use_of, uses_in}
-use Rattle.cell_columns.proofs.Edited.{IsFit, live, same_content, stands, still_sheets}
+use Rattle.cell_columns.proofs.Edited.{live, same_content, stands, still_sheets}
 use Rattle.cell_columns.proofs.PutSlot.{unequal}
 use Rattle.cell_columns.proofs.PutRows.{all_put, rows_put_long, slot_put, slot_stays, summed_rows}
 

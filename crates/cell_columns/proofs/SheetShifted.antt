@@ -24,7 +24,7 @@ use Rattle.cell_columns.specs.Sheets.{AreSheets}
 use Rattle.kept_codes.specs.RowChanges.{StaysIn, goes, tree_after}
 use Rattle.cell_columns.specs.Shifted.{shifted}
 use Rattle.cell_columns.specs.Uses.{summed}
-use Rattle.cell_columns.proofs.Edited.{IsFit}
+use Rattle.cell_columns.specs.Sheets.{IsFit}
 use Rattle.cell_columns.proofs.RowParts.{Fits, GoesWell, Meets, Rows, cells_there, rows_from}
 use Rattle.cell_columns.proofs.RowsMoved.{Holds, cells_moved, fits_moved, sums_moved}
 use Rattle.cell_columns.proofs.Told.{number_of, place_in, row_behind}

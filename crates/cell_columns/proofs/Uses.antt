@@ -21,10 +21,10 @@ use Rattle.cell_columns.specs.Uses.{code_in, formula_of, use_of}
 use Rattle.cell_columns.proofs.Edited.{live}
 use Rattle.cell_columns.proofs.PutSlot.{unequal}
 
-use_itself : (id : ℕ) → use_of id (slot.Formula id) ≡ 1
+pub use_itself : (id : ℕ) → use_of id (slot.Formula id) ≡ 1
 use_itself id = grind (arith, nat_tests)
 
-use_other : (i id : ℕ) → (i == id) ≡ false → use_of i (slot.Formula id) ≡ 0
+pub use_other : (i id : ℕ) → (i == id) ≡ false → use_of i (slot.Formula id) ≡ 0
 use_other i id other = ap (λ b. cond b 1 0) other
 
 single : (f : Slot → ℕ) (x : Slot) → sum_by f (x ∷ []) ≡ f x
@@ -33,23 +33,23 @@ single f x = omega arith
 same_id : (x y : ℕ) → Some x ≡ Some y → x ≡ y
 same_id x y h = ap (λ o. unwrap_or o x) h
 
-uses_left : (form : Tree) (n : ℕ) → slot_uses (with_uses form n) ≡ n
+pub uses_left : (form : Tree) (n : ℕ) → slot_uses (with_uses form n) ≡ n
 uses_left form n =
     elim (n == 0) as (λ b. (n == 0) ≡ b → slot_uses (cond b None (Some (record { form = form; uses = n }))) ≡ n) [
       | true ↦ λ h. sym ((Decides-eqb n 0).0 h)
       | false ↦ λ _. refl
     ] refl
 
-abbrev nothing : Option Code
+abbrev pub nothing : Option Code
 nothing = None
 
 no_code : IsSome nothing → ⊥
 no_code h = cc
 
-abbrev form_of : Option Code → Tree
+abbrev pub form_of : Option Code → Tree
 form_of o = option_map_or (λ (code : Code). code.form) o (Bad Syntax)
 
-form_left : (codes : Codes) (id n : ℕ) (form : Tree) → code_at codes id ≡ with_uses form n → IsLive codes id → form_at codes id ≡ form
+pub form_left : (codes : Codes) (id n : ℕ) (form : Tree) → code_at codes id ≡ with_uses form n → IsLive codes id → form_at codes id ≡ form
 form_left codes id n form is now =
     let kept : Option Code = Some (record { form = form; uses = n }) in
     ap form_of is

@@ -5,7 +5,7 @@
 -- Taken: how the uses of codes change.
 -- Freed: the formulas of neighbouring rows by the groups of their column.
 -- Emptied: cells without those of some rows in neighbouring columns.
--- FormulaCells: the cells that hold formulas, by the groups of their columns.
+-- Filled: contents that are put into neighbouring rows.
 -- Looks: what is lent of a cell's content.
 -- Walks: the rows of a column that hold something, and the cells that they are.
 -- ColumnRuns: the groups and the blocks of a column, as the cells alone have them.
@@ -18,7 +18,7 @@ pub mod Lent
 pub mod Taken
 pub mod Freed
 pub mod Emptied
-pub mod FormulaCells
+pub mod Filled
 pub mod Looks
 pub mod Walks
 pub mod ColumnRuns

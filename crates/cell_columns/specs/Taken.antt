@@ -53,3 +53,9 @@ pub record IsConstantSlot (value : Value) (x : Slot) : Type 0 where
   pub holds : (codes : Codes) (home : Place) → content_of codes home x ≡ Constant value
   pub kind : is_constant value ≡ true
   pub without_code : code_in x ≡ None
+
+-- The first slots use their codes now, and the others don't use theirs any more.
+pub record AreReplaced (old new : Codes) (slots gone : Column) : Type 0 where
+  pub between : Codes
+  pub taken : AreTaken old between slots
+  pub returned : AreReturned between new gone

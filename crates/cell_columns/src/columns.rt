@@ -1,6 +1,10 @@
+ghost use Rattle.std.specs.Prelude.{◌≡◌, IfOk, replicate};
+ghost use Rattle.block_column.specs.Tables.{no_slots};
+ghost use Rattle.formula_groups.specs.Groups.{no_codes};
+ghost use Rattle.cell_columns.specs.Lent.{codes_of, slots_of};
+
 use crate::cells::{code_at, column_number, make_room, numbers_of, put, used_at};
 use crate::emptying::{clear_columns, make_rooms};
-use crate::making::{empty_columns, empty_groups};
 use crate::reading::content_at;
 use crate::slots::{give_back, slot_of};
 use block_column::BlockColumn;
@@ -8,6 +12,7 @@ use calc_addr::{Area, Cell, NoMemory};
 use calc_model::{Content, MOST_CELLS};
 use formula_code::CodeTable;
 use formula_groups::GroupColumn;
+use kept_codes::COLUMNS;
 use std::alloc::Global;
 use std::marker::Model;
 
@@ -110,4 +115,26 @@ impl CellColumns {
     {
         content_at(alloc, self.columns.as_slice(), &self.table, cell)
     }
+}
+
+fn empty_columns(alloc: Global) -> Result<Vec<BlockColumn>, NoMemory>
+    ensures { IfOk result (λ columns. slots_of columns.items ≡ replicate COLUMNS no_slots) }
+{
+    let mut columns = Vec::new(alloc);
+    columns.reserve(COLUMNS)?;
+    for _ in 0..COLUMNS {
+        columns.push(BlockColumn::new(alloc)?)?;
+    }
+    Ok(columns)
+}
+
+fn empty_groups(alloc: Global) -> Result<Vec<GroupColumn>, NoMemory>
+    ensures { IfOk result (λ groups. codes_of groups.items ≡ replicate COLUMNS no_codes) }
+{
+    let mut groups = Vec::new(alloc);
+    groups.reserve(COLUMNS)?;
+    for _ in 0..COLUMNS {
+        groups.push(GroupColumn::new(alloc))?;
+    }
+    Ok(groups)
 }

@@ -8,7 +8,7 @@ ghost use Rattle.cell_columns.specs.Emptied.{without_rows};
 ghost use Rattle.cell_columns.specs.Lent.{AreColumns, HaveRoom, codes_of, slots_of};
 
 use crate::cells::make_room;
-use crate::release::release;
+use crate::slots::release;
 use block_column::BlockColumn;
 use calc_addr::NoMemory;
 use formula_code::CodeTable;

@@ -2,16 +2,13 @@
 #![tactic(auto)]
 
 mod cells;
-mod changing;
 mod columns;
 mod counting;
 mod emptying;
-mod formulas;
+mod filling;
 mod lending;
 mod looking;
-mod making;
 mod reading;
-mod release;
 mod row_edits;
 mod shifting;
 mod slots;

@@ -12,7 +12,6 @@ ghost use Rattle.cell_columns.specs.Walks.{formulas_of, places_of};
 use crate::cells::numbers_of;
 use crate::columns::CellColumns;
 use crate::counting::{all_formulas, count_cells};
-use crate::formulas::grouped_cells;
 use crate::reading::slot_ref;
 use crate::walking::{empty_below, push_cells};
 use block_column::SlotRef;
@@ -20,7 +19,7 @@ use calc_addr::{Area, Cell, LAST_ROW, NoMemory};
 use calc_model::{CodeId, Content};
 use cell_runs::CellRuns;
 use formula_code::CodeTable;
-use kept_codes::COLUMNS;
+use kept_codes::{COLUMNS, grouped_cells};
 use std::alloc::Global;
 
 /// A formula's code, with the table that has it.

@@ -11,7 +11,7 @@ ghost use Rattle.cell_columns.specs.Cells.{column_at, column_number, content_of,
 ghost use Rattle.cell_columns.specs.Lent.{slots_of};
 
 use crate::cells::column_number;
-use block_column::{BlockColumn, SlotRef};
+use block_column::{BlockColumn, Slot, SlotRef};
 use calc_addr::{Cell, NoMemory};
 use calc_model::{Constant, Content, Fault, Formula, Text, Value};
 use calc_num::Num;
@@ -26,6 +26,27 @@ pub(crate) fn slot_ref(columns: &[BlockColumn], cell: Cell) -> SlotRef<'_>
     ensures place { IsPlace cell }
 {
     columns[column_number(cell)].get(cell.row)
+}
+
+/// A copy of the slot of a cell.
+pub(crate) fn slot_copy(
+    alloc: Global,
+    columns: &[BlockColumn],
+    cell: Cell,
+) -> Result<Slot, NoMemory>
+    requires among { column_number cell < length columns.now }
+    requires rows { cell.row - 1 < length (column_at (slots_of columns.now) (column_number cell)) }
+    ensures slot { IfOk result (λ x. x ≡ slot_at (slots_of columns.now) cell) }
+    ensures place { IsPlace cell }
+{
+    match slot_ref(columns, cell) {
+        SlotRef::Empty => Ok(Slot::Empty),
+        SlotRef::Number(number) => Ok(Slot::Number(number)),
+        SlotRef::Words(text) => Ok(Slot::Words(text.copy(alloc)?)),
+        SlotRef::Bad(fault) => Ok(Slot::Bad(fault)),
+        SlotRef::Raw(text) => Ok(Slot::Raw(text.copy(alloc)?)),
+        SlotRef::Formula(id) => Ok(Slot::Formula(id)),
+    }
 }
 
 /// What a cell holds. Linear in it.

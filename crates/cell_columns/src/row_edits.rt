@@ -11,12 +11,12 @@ ghost use Rattle.cell_columns.specs.Cells.{cells_only};
 ghost use Rattle.cell_columns.specs.Looks.{with_contents};
 ghost use Rattle.cell_columns.specs.Reset.{emptied, with_all};
 ghost use Rattle.kept_codes.specs.RowChanges.{IsRowChange, sheet_of};
-ghost use Rattle.cell_columns.specs.Shifted.{AllStayIn, shifted};
+ghost use Rattle.cell_columns.specs.Shifted.{AllKeepOrAre, AllStayIn, shifted};
 
 use crate::columns::CellColumns;
 use calc_addr::{Area, Cell, LAST_COL, NoMemory};
 use calc_model::{Change, Content};
-use kept_codes::home_after;
+use kept_codes::{home_after, push_changing};
 use std::alloc::Global;
 
 impl CellColumns {
@@ -86,6 +86,20 @@ impl CellColumns {
         self.empty_cells(alloc, &cells)?;
         self.shift(change)?;
         self.set_all(alloc, &entries)
+    }
+
+    /// The cells of the formulas that don't keep their codes with a change of rows. Linear in those
+    /// cells, and in the nodes of each group's formula.
+    fn changing(&self, alloc: Global, change: Change) -> Result<Vec<Cell>, NoMemory>
+        requires change { IsRowChange change }
+        requires stay { AllStayIn change self.now }
+        ensures formulas { IfOk result (λ cells.
+            list_all (λ q. is_formula (content_at (cells_only self.now) q)) cells.items ≡ true) }
+        ensures others { IfOk result (λ cells. AllKeepOrAre change self.now cells.items) }
+    {
+        let mut cells = Vec::new(alloc);
+        push_changing(&self.table, &self.groups, change, &mut cells)?;
+        Ok(cells)
     }
 
     /// Formulas as a change of rows leaves them, at the cells to which they go.

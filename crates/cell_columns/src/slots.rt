@@ -1,7 +1,8 @@
 ghost use Rattle.std.specs.Prelude.{◌≡◌, ◌-◌, ◌≤◌, ◌^◌, ◌<◌, ℕ, [], ◌∷◌, Some, IfOk, IsOk, OnErr, OnOk, length, slice_set};
 ghost use Rattle.run_tables.specs.Rows.{AreRows};
 ghost use Rattle.formula_code.specs.Codes.{IsSame, total_uses, uses_at};
-ghost use Rattle.cell_columns.specs.Taken.{AreReturned, IsConstantSlot, IsSlotOf};
+ghost use Rattle.cell_columns.specs.Freed.{formulas_among, uses_among};
+ghost use Rattle.cell_columns.specs.Taken.{AreFreed, AreReturned, IsConstantSlot, IsSlotOf};
 ghost use Rattle.cell_columns.specs.Uses.{code_in};
 ghost use Rattle.block_column.specs.declared.slot.Slot.{Slot};
 ghost use Rattle.calc_model.specs.declared.content.Content.{Content};
@@ -10,7 +11,7 @@ use block_column::{BlockColumn, Slot};
 use calc_addr::{Cell, NoMemory};
 use calc_model::{CodeId, Constant, Content, Formula, Value};
 use formula_code::{CodeTable, uses_add_up};
-use formula_groups::GroupColumn;
+use formula_groups::{Group, GroupColumn};
 use std::alloc::Global;
 
 /// The slot of a content, whose code has one use more.
@@ -62,6 +63,23 @@ pub(crate) fn give_back(codes: &mut CodeTable, code: Option<CodeId>)
 {
     if let Some(id) = code {
         codes.give_back(id, 1);
+    }
+}
+
+/// Takes away the uses that formulas in neighbouring rows of a column make of their codes. Linear in the
+/// groups of the column.
+pub(crate) fn release(codes: &mut CodeTable, groups: &[Group], first: u32, last: u32)
+    requires rows { AreRows first last }
+    requires uses { (id : ℕ) → uses_among id first last groups.now ≤ uses_at codes.old id }
+    ensures { AreFreed codes.old codes.new (λ id. uses_among id first last groups.now)
+        (formulas_among first last groups.now) }
+{
+    for group in groups {
+        let from = group.first.max(first);
+        let to = group.last.min(last);
+        if from <= to {
+            codes.give_back(group.code, to + 1 - from);
+        }
     }
 }
 

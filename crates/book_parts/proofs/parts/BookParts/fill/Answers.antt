@@ -5,7 +5,7 @@ use Rattle.calc_model.specs.declared.content.Content.{Content}
 use Rattle.calc_model.specs.declared.limits.TheConstants.{MOST_CELLS}
 use Rattle.calc_model.specs.Books.{content_at, is_held}
 use Rattle.calc_model.specs.CellEdits.{CellEntries, after_fill, with_entries, without_area}
-use Rattle.book_parts.specs.Runs.{moved_entries}
+use Rattle.cell_columns.specs.Filled.{moved_entries}
 use Rattle.book_parts.proofs.Copied.{empty_fill_is, fill_is, length-fill}
 use Rattle.book_parts.proofs.parts.BookParts.fill.Goals as goal
 

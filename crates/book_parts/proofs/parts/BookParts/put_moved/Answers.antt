@@ -1,39 +1,55 @@
-use Rattle.std.proofs.Common.{◌≤◌, ◌+◌, List, suc, length, sym, ap, subst, ◌∙◌, refl, arith}
-use Rattle.calc_addr.specs.Places.{Place}
-use Rattle.calc_model.specs.declared.limits.TheConstants.{MOST_CELLS}
-use Rattle.calc_model.specs.CellEdits.{CellEntries, moved_content, with_entries}
-use Rattle.book_parts.specs.Runs.{moved_entries}
-use Rattle.book_parts.proofs.Copied.{put_one, room_behind, still_held}
+use Rattle.std.proofs.Common.{◌≡◌, ℕ, ◌+◌, ◌≤◌, List, length, length-append, sym, ap, subst, ◌∙◌, arith}
+use Rattle.calc_addr.specs.Places.{Place, Rectangle, column_places}
+use Rattle.calc_model.specs.CellEdits.{CellEntries, with_entries}
+use Rattle.cell_columns.specs.Filled.{moved_entries}
+use Rattle.book_parts.proofs.Filled.{column_first, columns_from, entries_long, inserts_few, rows_long, then_more}
 use Rattle.book_parts.proofs.parts.BookParts.put_moved.Goals as goal
 
-pub set_moved-requires-clause-room : goal.set_moved-requires-clause-room
-set_moved-requires-clause-room c =
-    let room : length c.loop-cell.self.cells + suc (length c.next.new.self) ≤ MOST_CELLS = subst (λ (qs : List Place). length c.loop-cell.self.cells + length qs ≤ MOST_CELLS) c.in-Some.ensures.steps c.loop-cell.invariant.room in
-    omega (arith, room)
+pub put_rows-requires-clause-room : goal.put_rows-requires-clause-room
+put_rows-requires-clause-room c =
+    let area : Rectangle = c.args.area in
+    let col : ℕ = c.loop-col.col in
+    let order : col ≤ area.last_col = omega (arith, c.loop-col-test.true, ap (λ (a : Rectangle). a.last_col) c.area.view_is) in
+    omega (
+      arith,
+      ap length (column_first area.sheet area.first_row area.last_row col area.last_col order),
+      length-append (column_places area.sheet col area.first_row area.last_row) (columns_from area.sheet area.first_row area.last_row (col + 1) area.last_col),
+      rows_long area.sheet col area.first_row area.last_row,
+      ap (λ (a : Rectangle). a.first_row) c.area.view_is,
+      ap (λ (a : Rectangle). a.last_row) c.area.view_is,
+      c.loop-col.invariant.room,
+    )
 
-pub loop-cell-preserved : goal.loop-cell-preserved
-loop-cell-preserved c =
+pub loop-col-preserved : goal.loop-col-preserved
+loop-col-preserved c =
+    let now = c.loop-col.invariant in
+    let area : Rectangle = c.args.area in
+    let col : ℕ = c.loop-col.col in
+    let from = c.args.from in
     let content = c.args.content.now in
-    let cell = c.in-Some.cell in
-    let moved = moved_content c.args.from cell content in
-    let room : length c.loop-cell.self.cells + suc (length c.next.new.self) ≤ MOST_CELLS = subst (λ (qs : List Place). length c.loop-cell.self.cells + length qs ≤ MOST_CELLS) c.in-Some.ensures.steps c.loop-cell.invariant.room in
+    let held : CellEntries = c.loop-col.self.cells in
+    let here : List Place = column_places area.sheet col area.first_row area.last_row in
+    let behind : List Place = columns_from area.sheet area.first_row area.last_row (col + 1) area.last_col in
+    let order : col ≤ area.last_col = omega (arith, c.loop-col-test.true, ap (λ (a : Rectangle). a.last_col) c.area.view_is) in
+    let parted = column_first area.sheet area.first_row area.last_row col area.last_col order in
+    let put : c.put_rows.new.self.cells ≡ with_entries held (moved_entries from content here) =
+    subst (λ (a : Rectangle). c.put_rows.new.self.cells ≡ with_entries held (moved_entries from content (column_places a.sheet col a.first_row a.last_row))) c.area.view_is c.in_ok-put_rows.ensures.cells in
     record {
       so_far =
-          ap (λ (es : CellEntries). with_entries es (moved_entries c.args.from content c.next.new.self))
-          (c.in_ok-set_moved.ensures.cells ∙ put_one c.loop-cell.self.cells cell moved (still_held c.args.from cell content c.requires.held))
-          ∙ ap (λ (qs : List Place). with_entries c.loop-cell.self.cells (moved_entries c.args.from content qs)) (sym c.in-Some.ensures.steps)
-          ∙ c.loop-cell.invariant.so_far;
-      room = subst (λ (es : CellEntries). length es + length c.next.new.self ≤ MOST_CELLS) (sym c.in_ok-set_moved.ensures.cells) (room_behind c.loop-cell.self.cells cell moved (length c.next.new.self) room);
-      names = c.in_ok-set_moved.ensures.names ∙ c.loop-cell.invariant.names;
-      book = c.in_ok-set_moved.ensures.book;
-    }
-
-pub loop-cell-init : goal.loop-cell-init
-loop-cell-init c =
-    let cells = c.into_iter-cell-iterator.ensures.into_iter_gives ∙ c.cells-cell-items.ensures in
-    record {
-      so_far = ap (λ (qs : List Place). with_entries c.args.self.now.cells (moved_entries c.args.from c.args.content.now qs)) cells;
-      room = subst (λ (qs : List Place). length c.args.self.now.cells + length qs ≤ MOST_CELLS) (sym cells) c.requires.room;
-      names = refl;
-      book = c.requires.book;
+          ap (λ (es : CellEntries). with_entries es (moved_entries from content behind)) put
+          ∙ sym (then_more held from content here behind)
+          ∙ ap (λ (ps : List Place). with_entries held (moved_entries from content ps)) (sym parted)
+          ∙ now.so_far;
+      room =
+          omega (
+            arith,
+            ap (λ (es : CellEntries). length es) put,
+            inserts_few (moved_entries from content here) held,
+            entries_long from content here,
+            ap length parted,
+            length-append here behind,
+            now.room,
+          );
+      names = c.in_ok-put_rows.ensures.names ∙ now.names;
+      book = c.in_ok-put_rows.ensures.book;
     }

@@ -6,11 +6,11 @@ use Rattle.calc_addr.specs.Places.{IsBefore, Place}
 use Rattle.calc_model.specs.Books.{content_at, is_formula}
 use Rattle.calc_model.specs.CellEdits.{CellEntries}
 use Rattle.cell_columns.specs.Cells.{cells_of, cells_only, column_at}
-use Rattle.cell_columns.specs.FormulaCells.{all_coded}
+use Rattle.kept_codes.specs.FormulaCells.{all_coded}
 use Rattle.cell_columns.specs.Lent.{codes_of, slots_of}
 use Rattle.cell_columns.specs.Uses.{code_in}
 use Rattle.cell_columns.proofs.FormulaPlaces.{exactly_formulas}
-use Rattle.cell_columns.proofs.FormulaRows.{all_in_order}
+use Rattle.kept_codes.proofs.FormulaRows.{all_in_order}
 use Rattle.cell_columns.proofs.Groups.{codes_at}
 use Rattle.cell_columns.proofs.Maps.{length_map}
 use Rattle.cell_columns.proofs.columns.CellColumns.formula_cells.Goals as goal
