@@ -1,3 +1,4 @@
+-- ByParts: rows of parts of runs, by their places among the stale cells.
 -- Finding: places of cells in a list in order.
 -- LevelLists: lists of stale cells by their levels.
 -- Levels: levels of stale cells while their waves are found.
@@ -6,6 +7,7 @@
 -- Sweeping: the cells of sorted runs, each once.
 -- WaveLists: lists of cells, kept as runs.
 -- Waves: in which order stale formulas are calculated.
+pub mod ByParts
 pub mod Finding
 pub mod LevelLists
 pub mod Levels

@@ -1,6 +1,7 @@
 //! Which formulas are stale after an edit, and in which order stale formulas are calculated.
 #![tactic(auto)]
 
+mod by_parts;
 mod circles;
 mod finding;
 mod level_lists;

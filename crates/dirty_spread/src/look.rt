@@ -10,6 +10,9 @@ use crate::finding::next_in;
 use calc_addr::Area;
 use cell_runs::CellRuns;
 
+/// The level of a cell that wasn't looked at.
+pub(crate) const NEW: usize = 0;
+
 /// The level of a cell in no wave.
 pub(crate) const CIRCULAR: usize = 2;
 
