@@ -1,8 +1,9 @@
 -- Rows of parts of runs, by their places among the stale cells.
-use Rattle.std.specs.Prelude.{◌≡◌, ◌<◌, ℕ, ◌+◌, ◌-◌, List, length, map}
+use Rattle.std.specs.Prelude.{◌≡◌, ◌<◌, ℕ, ◌+◌, ◌-◌, List, length, map, take}
 use Rattle.calc_addr.specs.Places.{Place, Rectangle, Rows}
 use Rattle.calc_model.specs.Ears.{ReadArea, area_at}
 use Rattle.calc_model.specs.Listeners.{ReadAreas, listed}
+use Rattle.cell_runs.specs.CellLists.{all_cells}
 use Rattle.dirty_spread.specs.Finding.{at}
 
 -- the areas of a row, so many rows below the first one
@@ -18,3 +19,7 @@ AreRowsOf read cells place count ears =
 abbrev pub AreRowsAt : List Place → Rows → ℕ → Type 0
 AreRowsAt cells run place =
     (k : ℕ) → k < run.last + 1 - run.first → (place + k < length cells) × (at cells (place + k) ≡ record { sheet = run.sheet; col = run.col; row = run.first + k })
+
+-- how many cells the first runs have
+abbrev pub cells_before : List Rows → ℕ → ℕ
+cells_before runs n = length (all_cells (take n runs))

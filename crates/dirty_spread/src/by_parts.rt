@@ -1,23 +1,24 @@
 //! Waves of whole parts of runs, row by row, as far as all that their rows read has waves.
-ghost use Rattle.std.specs.Prelude.{◌≡◌, ◌≤◌, ◌<◌, ◌+◌, ◌-◌, [], ℕ, length, true, Contains, IfOk, IfSome, OnOk};
+ghost use Rattle.std.specs.Prelude.{◌≡◌, ◌≤◌, ◌<◌, ◌+◌, ◌-◌, [], ℕ, length, true, IfOk, IfSome, OnOk};
 ghost use Rattle.std.specs.List.{AllPairs};
 ghost use Rattle.calc_addr.specs.declared.cell.TheConstants.{LAST_ROW};
-ghost use Rattle.calc_addr.specs.Places.{IsBefore, Place};
+ghost use Rattle.calc_addr.specs.Places.{IsBefore};
 ghost use Rattle.calc_model.specs.Ears.{area_at, end_at};
 ghost use Rattle.calc_model.specs.Listeners.{IsHeard};
-ghost use Rattle.run_unions.specs.Unions.{is_in};
+ghost use Rattle.cell_runs.specs.CellLists.{all_cells};
 ghost use Rattle.dirty_spread.specs.ByParts.{AreRowsAt, AreRowsOf, areas_below};
 ghost use Rattle.dirty_spread.specs.Levels.{IsLooked, IsOrdering};
 ghost use Rattle.dirty_spread.specs.Waves.{has, problem_of};
 
+use crate::leveling::read_areas;
 use crate::look::{CIRCULAR, Cursor, NEW, Seen, look};
-use calc_addr::{Area, Cell, LAST_ROW, NoMemory, Run};
+use calc_addr::{Area, LAST_ROW, NoMemory, Run};
 use calc_model::{Dependents, Ear, Part};
 use cell_runs::CellRuns;
 use std::alloc::Global;
 
-/// Runs of fewer cells than this and one aren't gone through by parts.
-const FEW: u32 = 7;
+/// Runs of no more cells than this are asked cell by cell what they read.
+const FEW: usize = 7;
 
 /// The row of an end, so many rows below the first one.
 fn end_at(moves: bool, row: u32, step: u32) -> u32
@@ -65,6 +66,30 @@ fn row_areas(ears: &[Ear], step: u32, areas: &mut Vec<Area>) -> Result<bool, NoM
     Ok(true)
 }
 
+/// Looks at areas, and answers only where all of them have waves and no circle.
+fn look_whole(
+    stale: &CellRuns,
+    circles: &CellRuns,
+    levels: &[usize],
+    areas: &[Area],
+) -> Option<Cursor>
+    requires in_order { AllPairs IsBefore stale.now }
+    requires circles { AllPairs IsBefore circles.now }
+    requires size { length levels.now ≡ length stale.now }
+    ensures { IfSome result (λ cursor. (length areas.now ≤ cursor.area)
+        × IsLooked stale.now (has circles.now) areas.now levels.now cursor) }
+{
+    let start = Cursor {
+        area: 0,
+        next: 0,
+        greatest: CIRCULAR,
+    };
+    match look(stale, circles, levels, areas, &start) {
+        Seen::Settled(cursor) => Some(cursor),
+        _ => None,
+    }
+}
+
 /// Looks at what a row reads, and answers only where all of it has waves.
 fn look_at_row(
     ears: &[Ear],
@@ -85,15 +110,7 @@ fn look_at_row(
     if !row_areas(ears, step, areas)? {
         return Ok(None);
     }
-    let start = Cursor {
-        area: 0,
-        next: 0,
-        greatest: CIRCULAR,
-    };
-    match look(stale, circles, levels, areas, &start) {
-        Seen::Settled(cursor) => Ok(Some(cursor)),
-        _ => Ok(None),
-    }
+    Ok(look_whole(stale, circles, levels, areas))
 }
 
 /// Gives rows their waves that stand one behind the other in the list, from the first one on, while
@@ -177,6 +194,7 @@ fn level_run_at<H: Dependents>(
     circles: &CellRuns,
     hub: &H,
     levels: &mut [usize],
+    areas: &mut Vec<Area>,
 ) -> Result<(), NoMemory>
     requires in_order { AllPairs IsBefore stale.now }
     requires circles { AllPairs IsBefore circles.now }
@@ -189,21 +207,87 @@ fn level_run_at<H: Dependents>(
 {
     let mut parts = Vec::new(alloc);
     let mut ears = Vec::new(alloc);
-    let mut areas = Vec::new(alloc);
     hub.parts(run, &mut parts, &mut ears)?;
     for part in parts.as_slice() {
-        level_part(
-            *part, run, place, &ears, stale, circles, hub, levels, &mut areas,
-        )?;
+        level_part(*part, run, place, &ears, stale, circles, hub, levels, areas)?;
     }
     Ok(())
 }
 
-/// Gives rows of a run of stale cells their waves, unless it is of few cells or the last one has its
-/// wave.
+/// Gives cells their waves that stand one behind the other in the list, from the first one on, while
+/// all that they read has waves.
+fn level_cells<H: Dependents>(
+    place: usize,
+    count: usize,
+    stale: &CellRuns,
+    circles: &CellRuns,
+    hub: &H,
+    levels: &mut [usize],
+    areas: &mut Vec<Area>,
+) -> Result<(), NoMemory>
+    requires in_order { AllPairs IsBefore stale.now }
+    requires circles { AllPairs IsBefore circles.now }
+    requires ready { H.ready hub.now ≡ true }
+    requires within { place + count ≤ length stale.now }
+    requires ordering { IsOrdering (problem_of (H.areas hub.now) stale.now circles.now)
+        levels.old [] }
+    ensures { OnOk result
+        (IsOrdering (problem_of (H.areas hub.now) stale.now circles.now) levels.new []) }
+{
+    for at in place..place + count {
+        if levels[at] == NEW {
+            read_areas(stale, hub, at, areas)?;
+            match look_whole(stale, circles, levels, areas) {
+                Some(cursor) => levels[at] = cursor.greatest + 1,
+                None => return Ok(()),
+            }
+        }
+    }
+    Ok(())
+}
+
+/// Gives cells of a run their waves, from the first one on, where the last one has none yet. The run
+/// stands in the list from a place on.
 fn level_run<H: Dependents>(
     alloc: Global,
     run: Run,
+    place: usize,
+    stale: &CellRuns,
+    circles: &CellRuns,
+    hub: &H,
+    levels: &mut [usize],
+    areas: &mut Vec<Area>,
+) -> Result<(), NoMemory>
+    requires in_order { AllPairs IsBefore stale.now }
+    requires circles { AllPairs IsBefore circles.now }
+    requires ready { H.ready hub.now ≡ true }
+    requires rows { AreRowsAt stale.now run place }
+    requires ordering { IsOrdering (problem_of (H.areas hub.now) stale.now circles.now)
+        levels.old [] }
+    ensures { OnOk result
+        (IsOrdering (problem_of (H.areas hub.now) stale.now circles.now) levels.new []) }
+{
+    let steps = (run.last - run.first) as usize;
+    if levels[place + steps] != NEW {
+        return Ok(());
+    }
+    if steps < FEW {
+        return level_cells(place, steps + 1, stale, circles, hub, levels, areas);
+    }
+    level_run_at(alloc, run, place, stale, circles, hub, levels, areas)
+}
+
+/// How many cells a run has.
+fn count_of(run: Run) -> usize
+    ensures { result ≡ run.last + 1 - run.first }
+{
+    (run.last - run.first) as usize + 1
+}
+
+/// Gives cells their waves run by run, forwards.
+fn level_forwards<H: Dependents>(
+    alloc: Global,
+    runs: &[Run],
     stale: &CellRuns,
     circles: &CellRuns,
     hub: &H,
@@ -212,32 +296,55 @@ fn level_run<H: Dependents>(
     requires in_order { AllPairs IsBefore stale.now }
     requires circles { AllPairs IsBefore circles.now }
     requires ready { H.ready hub.now ≡ true }
-    requires inside { (q : Place) → is_in q run ≡ true → Contains stale.now q }
+    requires runs { all_cells runs.now ≡ stale.now }
     requires ordering { IsOrdering (problem_of (H.areas hub.now) stale.now circles.now)
         levels.old [] }
     ensures { OnOk result
         (IsOrdering (problem_of (H.areas hub.now) stale.now circles.now) levels.new []) }
 {
-    let steps = run.last - run.first;
-    if steps < FEW {
-        return Ok(());
+    let mut areas = Vec::new(alloc);
+    let mut place = 0;
+    for turn in 0..runs.len() {
+        let run = runs[turn];
+        level_run(alloc, run, place, stale, circles, hub, levels, &mut areas)?;
+        place += count_of(run);
     }
-    let first = Cell {
-        sheet: run.sheet,
-        col: run.col,
-        row: run.first,
-    };
-    match stale.place(first) {
-        Some(place) if levels[place + steps as usize] == NEW => {
-            level_run_at(alloc, run, place, stale, circles, hub, levels)
-        }
-        _ => Ok(()),
-    }
+    Ok(())
 }
 
-/// Gives stale cells their waves where the parts of their runs can be gone down row by row, run by
-/// run, and the same backwards, of which none was looked at. It is linear in them and what they
-/// read.
+/// Gives cells their waves run by run, backwards.
+fn level_backwards<H: Dependents>(
+    alloc: Global,
+    runs: &[Run],
+    stale: &CellRuns,
+    circles: &CellRuns,
+    hub: &H,
+    levels: &mut [usize],
+) -> Result<(), NoMemory>
+    requires in_order { AllPairs IsBefore stale.now }
+    requires circles { AllPairs IsBefore circles.now }
+    requires ready { H.ready hub.now ≡ true }
+    requires runs { all_cells runs.now ≡ stale.now }
+    requires ordering { IsOrdering (problem_of (H.areas hub.now) stale.now circles.now)
+        levels.old [] }
+    ensures { OnOk result
+        (IsOrdering (problem_of (H.areas hub.now) stale.now circles.now) levels.new []) }
+{
+    let mut areas = Vec::new(alloc);
+    let mut place = stale.len();
+    let mut left = runs.len();
+    while left > 0 {
+        left -= 1;
+        let run = runs[left];
+        place -= count_of(run);
+        level_run(alloc, run, place, stale, circles, hub, levels, &mut areas)?;
+    }
+    Ok(())
+}
+
+/// Gives stale cells their waves that can be gone down row by row, run by run, forwards and then
+/// backwards, while all that they read has waves. The rows of a part of a run are asked together what
+/// they read. It is linear in the cells and what they read.
 pub(crate) fn level_runs<H: Dependents>(
     alloc: Global,
     stale: &CellRuns,
@@ -253,13 +360,6 @@ pub(crate) fn level_runs<H: Dependents>(
     ensures { OnOk result
         (IsOrdering (problem_of (H.areas hub.now) stale.now circles.now) levels.new []) }
 {
-    let runs = stale.runs();
-    let count = runs.len();
-    for turn in 0..count {
-        level_run(alloc, runs[turn], stale, circles, hub, levels)?;
-    }
-    for turn in 0..count {
-        level_run(alloc, runs[count - 1 - turn], stale, circles, hub, levels)?;
-    }
-    Ok(())
+    level_forwards(alloc, stale.runs(), stale, circles, hub, levels)?;
+    level_backwards(alloc, stale.runs(), stale, circles, hub, levels)
 }

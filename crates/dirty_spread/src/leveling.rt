@@ -83,7 +83,7 @@ fn frame_at(place: usize) -> Frame
 }
 
 /// The areas that a stale cell reads.
-fn read_areas<H: Dependents>(
+pub(crate) fn read_areas<H: Dependents>(
     stale: &CellRuns,
     hub: &H,
     place: usize,
