@@ -1,9 +1,12 @@
 -- Levels of the cells of an area, one cell more.
 use Rattle.std.proofs.Common.{◌≡◌, ℕ, ◌+◌, ◌<◌, ◌≤◌, ◌⊎◌, true, max, List, length, inl, inr, refl, sym, subst, ◌∙◌, ⊎_elim, arith}
 use Rattle.std.proofs.lemmas.Bool.{cases_lt, cases_order}
-use Rattle.calc_addr.specs.Places.{Place, Rectangle, covers}
+use Rattle.std.specs.List.{AllPairs}
+use Rattle.calc_addr.specs.Places.{IsBefore, Place, Rectangle, covers}
 use Rattle.dirty_spread.specs.Finding.{IsNextIn, at}
 use Rattle.dirty_spread.specs.Levels.{IsScan, IsSettled, level}
+use Rattle.dirty_spread.proofs.Found.{one_place}
+use Rattle.dirty_spread.proofs.Stepping.{only_cell}
 
 module _ (cells : List Place) (levels : List ℕ) (area : Rectangle) (from least : ℕ) where
   pub scan_start : (place : ℕ) → IsNextIn cells area from place → IsScan cells levels area from least place least
@@ -13,6 +16,19 @@ module _ (cells : List Place) (levels : List ℕ) (area : Rectangle) (from least
     settled = λ i low high c. let none = next.none i low high in absurd (cc);
     more = omega arith;
     attained = inl refl;
+  }
+
+  -- the one cell of an area has a wave
+  pub scan_found : AllPairs IsBefore cells → area.first_col ≡ area.last_col → area.first_row ≡ area.last_row → (place : ℕ) → IsNextIn cells area from place
+      → place < length cells → 3 ≤ level levels place → IsScan cells levels area from least (length cells) (max least (level levels place))
+  scan_found in_order col row place next within is_wave = record {
+    within = omega arith;
+    here = λ less. absurd (omega arith);
+    settled = λ i low high c.
+        let same : place ≡ i = one_place cells in_order place i within high (only_cell area (at cells place) col row (next.here within) ∙ sym (only_cell area (at cells i) col row c)) in
+        subst (λ n. IsSettled levels (max least (level levels place)) n) same (is_wave, omega arith);
+    more = omega arith;
+    attained = ⊎_elim (λ (l : least < level levels place). inr (place, within, next.here within, omega arith)) (λ (le : level levels place ≤ least). inl (omega arith)) (cases_lt least (level levels place));
   }
 
   module _ (place greatest : ℕ) (scan : IsScan cells levels area from least place greatest) (in_list : place < length cells) (is_wave : 3 ≤ level levels place) (place' : ℕ) (next : IsNextIn cells area (place + 1) place') where

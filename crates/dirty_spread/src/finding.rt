@@ -70,7 +70,7 @@ fn skip(area: &Area, cell: &Cell) -> Option<Cell>
 }
 
 /// The same for an area of one cell, in the logarithm of the runs.
-fn one_from(cells: &CellRuns, area: &Area, from: usize) -> usize
+pub(crate) fn one_from(cells: &CellRuns, area: &Area, from: usize) -> usize
     requires in_order { AllPairs IsBefore cells.now }
     requires within { from ≤ length cells.now }
     requires column { area.now.first_col ≡ area.now.last_col }

@@ -6,7 +6,7 @@ ghost use Rattle.dirty_spread.specs.Levels.{IsLooked, IsScan, IsSeen, level};
 ghost use Rattle.dirty_spread.specs.Waves.{has};
 
 use crate::circles::has_circle;
-use crate::finding::next_in;
+use crate::finding::{next_in, one_from};
 use calc_addr::Area;
 use cell_runs::CellRuns;
 
@@ -48,7 +48,7 @@ pub(crate) enum Seen {
 
 /// Goes over the cells of an area from a place on while they have waves, and gives the place of the
 /// first that hasn't, or how many cells there are, and the greatest level.
-fn scan(
+fn scan_all(
     cells: &CellRuns,
     levels: &[usize],
     area: &Area,
@@ -68,6 +68,49 @@ fn scan(
         place = next_in(cells, area, place + 1);
     }
     (place, greatest)
+}
+
+/// The same for an area of one cell.
+fn scan_one(
+    cells: &CellRuns,
+    levels: &[usize],
+    area: &Area,
+    from: usize,
+    least: usize,
+) -> (usize, usize)
+    requires in_order { AllPairs IsBefore cells.now }
+    requires size { length levels.now ≡ length cells.now }
+    requires within { from ≤ length cells.now }
+    requires column { area.now.first_col ≡ area.now.last_col }
+    requires row { area.now.first_row ≡ area.now.last_row }
+    ensures scan { IsScan cells.now levels.now area.now from least result.0 result.1 }
+    ensures stopped { result.0 < length cells.now → level levels.now result.0 ≤ 2 }
+{
+    let place = one_from(cells, area, from);
+    if place < levels.len() && levels[place] >= FIRST {
+        return (levels.len(), least.max(levels[place]));
+    }
+    (place, least)
+}
+
+/// The same for any area.
+fn scan(
+    cells: &CellRuns,
+    levels: &[usize],
+    area: &Area,
+    from: usize,
+    least: usize,
+) -> (usize, usize)
+    requires in_order { AllPairs IsBefore cells.now }
+    requires size { length levels.now ≡ length cells.now }
+    requires within { from ≤ length cells.now }
+    ensures scan { IsScan cells.now levels.now area.now from least result.0 result.1 }
+    ensures stopped { result.0 < length cells.now → level levels.now result.0 ≤ 2 }
+{
+    if area.first_row == area.last_row && area.first_col == area.last_col {
+        return scan_one(cells, levels, area, from, least);
+    }
+    scan_all(cells, levels, area, from, least)
 }
 
 /// Looks at what a cell reads from a cursor on, until a cell is met that has no wave.

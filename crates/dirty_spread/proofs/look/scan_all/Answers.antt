@@ -1,7 +1,7 @@
 use Rattle.std.proofs.Common.{sym, subst, arith}
 use Rattle.dirty_spread.specs.Levels.{IsScan}
 use Rattle.dirty_spread.proofs.Scans.{scan_more}
-use Rattle.dirty_spread.proofs.look.scan.Goals as goal
+use Rattle.dirty_spread.proofs.look.scan_all.Goals as goal
 
 pub loop-place-preserved : goal.loop-place-preserved
 loop-place-preserved c = record {
