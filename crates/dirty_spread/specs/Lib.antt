@@ -5,7 +5,6 @@
 -- Marking: marks of formula cells, and runs of those that were marked.
 -- Spreading: which formula cells are stale once areas were touched.
 -- Sweeping: the cells of sorted runs, each once.
--- WaveLists: lists of cells, kept as runs.
 -- Waves: in which order stale formulas are calculated.
 pub mod ByParts
 pub mod Finding
@@ -14,5 +13,4 @@ pub mod Levels
 pub mod Marking
 pub mod Spreading
 pub mod Sweeping
-pub mod WaveLists
 pub mod Waves

@@ -10,10 +10,9 @@ mod look;
 mod marking;
 mod spreading;
 mod union;
-mod wave_list;
 mod waves;
 
+pub use cell_runs::WaveList;
 pub use spreading::spread;
 pub use union::union_of_runs;
-pub use wave_list::WaveList;
 pub use waves::{Waves, order};

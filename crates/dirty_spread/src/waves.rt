@@ -10,10 +10,9 @@ ghost use Rattle.dirty_spread.specs.Waves.{AreAll, AreWaves, IsInNone, problem_o
 use crate::level_lists::lists;
 use crate::leveling::find_levels;
 use crate::look::CIRCULAR;
-use crate::wave_list::WaveList;
 use calc_addr::{NoMemory, Run};
 use calc_model::Dependents;
-use cell_runs::CellRuns;
+use cell_runs::{CellRuns, WaveList};
 use std::alloc::Global;
 
 /// Appends the cell at a place.
