@@ -13,18 +13,24 @@ use Rattle.calc_model.specs.Listeners.{IsHeard, ReadAreas, listed}
 use Rattle.dirty_spread.specs.declared.look.Cursor.{Cursor}
 use Rattle.dirty_spread.specs.ByParts.{AreRowsAt, AreRowsOf, areas_below, cells_before}
 use Rattle.dirty_spread.specs.Finding.{at}
-use Rattle.dirty_spread.specs.Levels.{IsLooked, IsOrdering, level, read_by}
-use Rattle.dirty_spread.specs.Waves.{Problem}
+use Rattle.dirty_spread.specs.Levels.{AreUnderWay, IsLooked, IsOrdering, level, read_by}
+use Rattle.dirty_spread.specs.Waves.{Problem, has, problem_of}
 use Rattle.dirty_spread.proofs.Orders.{begin, looked_kept, set_keeps, settle}
 
 -- a cell that wasn't looked at gets its wave at once
-pub settle_new : (p : Problem) (levels : List ℕ) → IsOrdering p levels [] → (place : ℕ) → place < length levels → level levels place ≡ 0
+settle_new : (p : Problem) (levels : List ℕ) → IsOrdering p levels [] → (place : ℕ) → place < length levels → level levels place ≡ 0
     → (cursor : Cursor) → length (read_by p place) ≤ cursor.area → IsLooked p.stale p.circular (read_by p place) levels cursor → IsOrdering p (set levels place (cursor.greatest + 1)) []
 settle_new p levels h place within is_new cursor all looked =
     subst (λ (ls : List ℕ). IsOrdering p ls []) (set-set levels place 1 (cursor.greatest + 1))
     (settle p (set levels place 1) [] (record { place = place; cursor = record { area = 0; next = 0; greatest = 2 } })
     (begin p levels h place within is_new) cursor all
     (looked_kept p.stale p.circular (read_by p place) levels (set levels place 1) cursor (set_keeps levels place 1 (omega arith)) looked))
+
+pub settled_more : (read : ReadAreas) (stale circles : List Place) (levels : List ℕ) → AreUnderWay read stale circles levels → (place : ℕ) → place < length levels → level levels place ≡ 0
+    → (cursor : Cursor) → length (read_by (problem_of read stale circles) place) ≤ cursor.area → IsLooked stale (has circles) (read_by (problem_of read stale circles) place) levels cursor
+    → AreUnderWay read stale circles (set levels place (cursor.greatest + 1))
+settled_more read stale circles levels h place within is_new cursor all looked =
+    record { in_order = h.in_order; circles_in_order = h.circles_in_order; ordering = settle_new (problem_of read stale circles) levels h.ordering place within is_new cursor all looked }
 
 -- the rows of a part stand one behind the other, and read what its ears say
 module _ (read : ReadAreas) (cells : List Place) (run : Rows) (ears : List ReadArea) (part : Part) (place : ℕ) (heard : IsHeard read run ears part) (in_order : part.run.first ≤ part.run.last) (rows : AreRowsAt cells run place) where

@@ -1,5 +1,5 @@
 //! Waves of whole parts of runs, row by row, as far as all that their rows read has waves.
-ghost use Rattle.std.specs.Prelude.{◌≡◌, ◌≤◌, ◌<◌, ◌+◌, ◌-◌, [], ℕ, length, true, IfOk, IfSome, OnOk};
+ghost use Rattle.std.specs.Prelude.{◌≡◌, ◌≤◌, ◌<◌, ◌+◌, ◌-◌, ℕ, length, true, IfOk, IfSome, OnOk};
 ghost use Rattle.std.specs.List.{AllPairs};
 ghost use Rattle.calc_addr.specs.declared.cell.TheConstants.{LAST_ROW};
 ghost use Rattle.calc_addr.specs.Places.{IsBefore};
@@ -7,8 +7,8 @@ ghost use Rattle.calc_model.specs.Ears.{area_at, end_at};
 ghost use Rattle.calc_model.specs.Listeners.{IsHeard};
 ghost use Rattle.cell_runs.specs.CellLists.{all_cells};
 ghost use Rattle.dirty_spread.specs.ByParts.{AreRowsAt, AreRowsOf, areas_below};
-ghost use Rattle.dirty_spread.specs.Levels.{IsLooked, IsOrdering};
-ghost use Rattle.dirty_spread.specs.Waves.{has, problem_of};
+ghost use Rattle.dirty_spread.specs.Levels.{AreUnderWay, IsLooked};
+ghost use Rattle.dirty_spread.specs.Waves.{has};
 
 use crate::leveling::read_areas;
 use crate::look::{CIRCULAR, Cursor, NEW, Seen, look};
@@ -125,14 +125,10 @@ fn level_rows<H: Dependents>(
     levels: &mut [usize],
     areas: &mut Vec<Area>,
 ) -> Result<(), NoMemory>
-    requires in_order { AllPairs IsBefore stale.now }
-    requires circles { AllPairs IsBefore circles.now }
     requires most { count ≤ LAST_ROW }
     requires rows { AreRowsOf (H.areas hub.now) stale.now place count ears.now }
-    requires ordering { IsOrdering (problem_of (H.areas hub.now) stale.now circles.now)
-        levels.old [] }
-    ensures { OnOk result
-        (IsOrdering (problem_of (H.areas hub.now) stale.now circles.now) levels.new []) }
+    requires under_way { AreUnderWay (H.areas hub.now) stale.now circles.now levels.old }
+    ensures { OnOk result (AreUnderWay (H.areas hub.now) stale.now circles.now levels.new) }
 {
     let _ = hub;
     for step in 0..count {
@@ -160,14 +156,10 @@ fn level_part<H: Dependents>(
     levels: &mut [usize],
     areas: &mut Vec<Area>,
 ) -> Result<(), NoMemory>
-    requires in_order { AllPairs IsBefore stale.now }
-    requires circles { AllPairs IsBefore circles.now }
     requires heard { IsHeard (H.areas hub.now) run ears.now part }
     requires rows { AreRowsAt stale.now run place }
-    requires ordering { IsOrdering (problem_of (H.areas hub.now) stale.now circles.now)
-        levels.old [] }
-    ensures { OnOk result
-        (IsOrdering (problem_of (H.areas hub.now) stale.now circles.now) levels.new []) }
+    requires under_way { AreUnderWay (H.areas hub.now) stale.now circles.now levels.old }
+    ensures { OnOk result (AreUnderWay (H.areas hub.now) stale.now circles.now levels.new) }
 {
     let above = (part.run.first - run.first) as usize;
     let count = part.run.last - part.run.first + 1;
@@ -184,36 +176,6 @@ fn level_part<H: Dependents>(
     )
 }
 
-/// Gives rows of the parts of a run their waves. The cells of the run stand in the list from a place
-/// on.
-fn level_run_at<H: Dependents>(
-    alloc: Global,
-    run: Run,
-    place: usize,
-    stale: &CellRuns,
-    circles: &CellRuns,
-    hub: &H,
-    levels: &mut [usize],
-    areas: &mut Vec<Area>,
-) -> Result<(), NoMemory>
-    requires in_order { AllPairs IsBefore stale.now }
-    requires circles { AllPairs IsBefore circles.now }
-    requires ready { H.ready hub.now ≡ true }
-    requires rows { AreRowsAt stale.now run place }
-    requires ordering { IsOrdering (problem_of (H.areas hub.now) stale.now circles.now)
-        levels.old [] }
-    ensures { OnOk result
-        (IsOrdering (problem_of (H.areas hub.now) stale.now circles.now) levels.new []) }
-{
-    let mut parts = Vec::new(alloc);
-    let mut ears = Vec::new(alloc);
-    hub.parts(run, &mut parts, &mut ears)?;
-    for part in parts.as_slice() {
-        level_part(*part, run, place, &ears, stale, circles, hub, levels, areas)?;
-    }
-    Ok(())
-}
-
 /// Gives cells their waves that stand one behind the other in the list, from the first one on, while
 /// all that they read has waves.
 fn level_cells<H: Dependents>(
@@ -225,14 +187,10 @@ fn level_cells<H: Dependents>(
     levels: &mut [usize],
     areas: &mut Vec<Area>,
 ) -> Result<(), NoMemory>
-    requires in_order { AllPairs IsBefore stale.now }
-    requires circles { AllPairs IsBefore circles.now }
     requires ready { H.ready hub.now ≡ true }
     requires within { place + count ≤ length stale.now }
-    requires ordering { IsOrdering (problem_of (H.areas hub.now) stale.now circles.now)
-        levels.old [] }
-    ensures { OnOk result
-        (IsOrdering (problem_of (H.areas hub.now) stale.now circles.now) levels.new []) }
+    requires under_way { AreUnderWay (H.areas hub.now) stale.now circles.now levels.old }
+    ensures { OnOk result (AreUnderWay (H.areas hub.now) stale.now circles.now levels.new) }
 {
     for at in place..place + count {
         if levels[at] == NEW {
@@ -258,14 +216,10 @@ fn level_run<H: Dependents>(
     levels: &mut [usize],
     areas: &mut Vec<Area>,
 ) -> Result<(), NoMemory>
-    requires in_order { AllPairs IsBefore stale.now }
-    requires circles { AllPairs IsBefore circles.now }
     requires ready { H.ready hub.now ≡ true }
     requires rows { AreRowsAt stale.now run place }
-    requires ordering { IsOrdering (problem_of (H.areas hub.now) stale.now circles.now)
-        levels.old [] }
-    ensures { OnOk result
-        (IsOrdering (problem_of (H.areas hub.now) stale.now circles.now) levels.new []) }
+    requires under_way { AreUnderWay (H.areas hub.now) stale.now circles.now levels.old }
+    ensures { OnOk result (AreUnderWay (H.areas hub.now) stale.now circles.now levels.new) }
 {
     let steps = (run.last - run.first) as usize;
     if levels[place + steps] != NEW {
@@ -274,7 +228,13 @@ fn level_run<H: Dependents>(
     if steps < FEW {
         return level_cells(place, steps + 1, stale, circles, hub, levels, areas);
     }
-    level_run_at(alloc, run, place, stale, circles, hub, levels, areas)
+    let mut parts = Vec::new(alloc);
+    let mut ears = Vec::new(alloc);
+    hub.parts(run, &mut parts, &mut ears)?;
+    for part in parts.as_slice() {
+        level_part(*part, run, place, &ears, stale, circles, hub, levels, areas)?;
+    }
+    Ok(())
 }
 
 /// How many cells a run has.
@@ -293,14 +253,10 @@ fn level_forwards<H: Dependents>(
     hub: &H,
     levels: &mut [usize],
 ) -> Result<(), NoMemory>
-    requires in_order { AllPairs IsBefore stale.now }
-    requires circles { AllPairs IsBefore circles.now }
     requires ready { H.ready hub.now ≡ true }
     requires runs { all_cells runs.now ≡ stale.now }
-    requires ordering { IsOrdering (problem_of (H.areas hub.now) stale.now circles.now)
-        levels.old [] }
-    ensures { OnOk result
-        (IsOrdering (problem_of (H.areas hub.now) stale.now circles.now) levels.new []) }
+    requires under_way { AreUnderWay (H.areas hub.now) stale.now circles.now levels.old }
+    ensures { OnOk result (AreUnderWay (H.areas hub.now) stale.now circles.now levels.new) }
 {
     let mut areas = Vec::new(alloc);
     let mut place = 0;
@@ -321,14 +277,10 @@ fn level_backwards<H: Dependents>(
     hub: &H,
     levels: &mut [usize],
 ) -> Result<(), NoMemory>
-    requires in_order { AllPairs IsBefore stale.now }
-    requires circles { AllPairs IsBefore circles.now }
     requires ready { H.ready hub.now ≡ true }
     requires runs { all_cells runs.now ≡ stale.now }
-    requires ordering { IsOrdering (problem_of (H.areas hub.now) stale.now circles.now)
-        levels.old [] }
-    ensures { OnOk result
-        (IsOrdering (problem_of (H.areas hub.now) stale.now circles.now) levels.new []) }
+    requires under_way { AreUnderWay (H.areas hub.now) stale.now circles.now levels.old }
+    ensures { OnOk result (AreUnderWay (H.areas hub.now) stale.now circles.now levels.new) }
 {
     let mut areas = Vec::new(alloc);
     let mut place = stale.len();
@@ -352,13 +304,9 @@ pub(crate) fn level_runs<H: Dependents>(
     hub: &H,
     levels: &mut [usize],
 ) -> Result<(), NoMemory>
-    requires in_order { AllPairs IsBefore stale.now }
-    requires circles { AllPairs IsBefore circles.now }
     requires ready { H.ready hub.now ≡ true }
-    requires ordering { IsOrdering (problem_of (H.areas hub.now) stale.now circles.now)
-        levels.old [] }
-    ensures { OnOk result
-        (IsOrdering (problem_of (H.areas hub.now) stale.now circles.now) levels.new []) }
+    requires under_way { AreUnderWay (H.areas hub.now) stale.now circles.now levels.old }
+    ensures { OnOk result (AreUnderWay (H.areas hub.now) stale.now circles.now levels.new) }
 {
     level_forwards(alloc, stale.runs(), stale, circles, hub, levels)?;
     level_backwards(alloc, stale.runs(), stale, circles, hub, levels)

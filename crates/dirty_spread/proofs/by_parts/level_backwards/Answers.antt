@@ -23,5 +23,5 @@ loop-left-preserved g c =
     record {
       within = omega (arith, c.loop-left.invariant.within);
       place = omega (arith, less, c.loop-left.invariant.place, c.count_of-place.ensures);
-      ordering = c.in_ok-level_run.ensures;
+      under_way = c.in_ok-level_run.ensures;
     }

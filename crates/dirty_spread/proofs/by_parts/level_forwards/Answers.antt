@@ -13,7 +13,7 @@ level_run-requires-clause-rows g c =
 pub overflow_add-place : goal.overflow_add-place
 overflow_add-place g c =
     let fit = runs_fit c.args.runs.now c.args.stale.now c.requires.runs c.loop-turn.turn c.index-runs-turn.result c.loop-turn-test.true c.index-runs-turn.is in
-    omega (arith, fit, c.loop-turn.invariant.place, c.count_of-place.ensures, c.requires.ordering.size, c.loop-turn.auto.levels)
+    omega (arith, fit, c.loop-turn.invariant.place, c.count_of-place.ensures, c.requires.under_way.ordering.size, c.loop-turn.auto.levels)
 
 pub loop-turn-preserved : goal.loop-turn-preserved
 loop-turn-preserved g c =
@@ -21,5 +21,5 @@ loop-turn-preserved g c =
     record {
       within = omega (arith, c.loop-turn-test.true);
       place = omega (arith, more, c.loop-turn.invariant.place, c.count_of-place.ensures);
-      ordering = c.in_ok-level_run.ensures;
+      under_way = c.in_ok-level_run.ensures;
     }

@@ -1,7 +1,0 @@
-use Rattle.std.proofs.Common.{[]}
-use Rattle.dirty_spread.specs.Levels.{IsOrdering}
-use Rattle.dirty_spread.specs.Waves.{problem_of}
-use Rattle.dirty_spread.proofs.by_parts.level_run_at.Given as goal
-
-abbrev pub invariant-loop-part : goal.invariant-loop-part
-invariant-loop-part g l = IsOrdering (problem_of (g.H.Dependents.areas l.hub) l.stale l.circles) l.levels []
