@@ -96,7 +96,7 @@ pub(crate) fn one_from(cells: &CellRuns, area: &Area, from: usize) -> usize
 
 /// The place of the first cell of an area from a place of the list on, or how many cells there are.
 /// It skips what lies between two columns of the area by a search.
-fn next_of(cells: &CellRuns, area: &Area, from: usize) -> usize
+pub(crate) fn next_of(cells: &CellRuns, area: &Area, from: usize) -> usize
     requires in_order { AllPairs IsBefore cells.now }
     requires within { from ≤ length cells.now }
     ensures from { from ≤ result }
@@ -115,15 +115,20 @@ fn next_of(cells: &CellRuns, area: &Area, from: usize) -> usize
     at
 }
 
-/// The place of the first cell of an area from a place of the list on, or how many cells there are.
+/// The same, found at once where the area's first cell stands in the list from that place on.
 pub(crate) fn next_in(cells: &CellRuns, area: &Area, from: usize) -> usize
     requires in_order { AllPairs IsBefore cells.now }
     requires within { from ≤ length cells.now }
     ensures from { from ≤ result }
     ensures next { IsNextIn cells.now area.now from result }
 {
-    if area.first_row == area.last_row && area.first_col == area.last_col {
-        return one_from(cells, area, from);
+    let first = Cell {
+        sheet: area.sheet,
+        col: area.first_col,
+        row: area.first_row,
+    };
+    match cells.place(first) {
+        Some(place) if place >= from => place,
+        _ => next_of(cells, area, from),
     }
-    next_of(cells, area, from)
 }

@@ -6,7 +6,7 @@ ghost use Rattle.dirty_spread.specs.Levels.{IsLooked, IsScan, IsSeen, level};
 ghost use Rattle.dirty_spread.specs.Waves.{has};
 
 use crate::circles::has_circle;
-use crate::finding::{next_in, one_from};
+use crate::finding::{next_in, next_of, one_from};
 use calc_addr::Area;
 use cell_runs::CellRuns;
 
@@ -65,7 +65,7 @@ fn scan_all(
     let mut greatest = least;
     while place < levels.len() && levels[place] >= FIRST {
         greatest = greatest.max(levels[place]);
-        place = next_in(cells, area, place + 1);
+        place = next_of(cells, area, place + 1);
     }
     (place, greatest)
 }
