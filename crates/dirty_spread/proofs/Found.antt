@@ -99,22 +99,6 @@ module _ (cells : List Place) (in_order : AllPairs IsBefore cells) where
           none = λ i low high. false_from_ne_true (covers area (at cells i)) (λ c. absurd (omega (arith, alone i place (omega (arith, here.0)) here.0 here.1 c)));
         }
 
-    pub one_behind : (from place : ℕ) → place < from → slice_get cells place ≡ Some (corner area) → IsNextIn cells area from (length cells)
-    one_behind from place less is =
-        let here = at_some cells place (corner area) is in
-        record {
-          within = omega arith;
-          here = λ l. absurd (omega arith);
-          none = λ i low high. false_from_ne_true (covers area (at cells i)) (λ c. absurd (omega (arith, alone i place high here.0 here.1 c)));
-        }
-
-    pub one_absent : (from : ℕ) → (Contains cells (corner area) → ⊥) → IsNextIn cells area from (length cells)
-    one_absent from absent = record {
-      within = omega arith;
-      here = λ l. absurd (omega arith);
-      none = λ i low high. false_from_ne_true (covers area (at cells i)) (λ c. absent (subst (Contains cells) (only_cell area (at cells i) col row c) (at_holds cells i high)));
-    }
-
   -- the first cell of an area is the next one of it
   pub first_found : (area : Rectangle) → IsRectangle area → (from place : ℕ) → slice_get cells place ≡ Some (corner area) → IsNextIn cells area from place
   first_found area rectangle from place is =

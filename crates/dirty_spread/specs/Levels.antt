@@ -27,6 +27,15 @@ pub record IsScan (cells : List Place) (levels : List ℕ) (area : Rectangle) (f
   pub more : least ≤ greatest
   pub attained : (greatest ≡ least) ⊎ ((i : ℕ) × (i < length cells) × (covers area (at cells i) ≡ true) × (level levels i ≡ greatest))
 
+-- The same for an area of one column up to the place of its last cell.
+pub record IsColumnScan (cells : List Place) (levels : List ℕ) (area : Rectangle) (from last least place greatest : ℕ) : Type 0 where
+  pub on : from ≤ place
+  pub within : place ≤ length cells
+  pub here : place ≤ last → covers area (at cells place) ≡ true
+  pub settled : (i : ℕ) → from ≤ i → i < place → covers area (at cells i) ≡ true → IsSettled levels greatest i
+  pub more : least ≤ greatest
+  pub attained : (greatest ≡ least) ⊎ ((i : ℕ) × (i < length cells) × (covers area (at cells i) ≡ true) × (level levels i ≡ greatest))
+
 -- one of the areas has the cell
 abbrev pub is_in_one : List Rectangle → Place → Type 0
 is_in_one areas q = list_any (λ area. covers area q) areas ≡ true

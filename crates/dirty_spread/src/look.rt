@@ -2,12 +2,13 @@
 ghost use Rattle.std.specs.Prelude.{◌≡◌, ◌≤◌, ◌<◌, false, length, true};
 ghost use Rattle.std.specs.List.{AllPairs};
 ghost use Rattle.calc_addr.specs.Places.{IsBefore, Place, covers};
+ghost use Rattle.dirty_spread.specs.Finding.{IsLastAt, IsNextIn};
 ghost use Rattle.dirty_spread.specs.Levels.{IsLooked, IsScan, IsSeen, level};
 ghost use Rattle.dirty_spread.specs.Waves.{has};
 
 use crate::circles::has_circle;
-use crate::finding::{next_in, next_of, one_from};
-use calc_addr::Area;
+use crate::finding::{next_in, next_of};
+use calc_addr::{Area, Cell};
 use cell_runs::CellRuns;
 
 /// The level of a cell that wasn't looked at.
@@ -70,27 +71,34 @@ fn scan_all(
     (place, greatest)
 }
 
-/// The same for an area of one cell.
-fn scan_one(
+/// The same for an area of one column, by the places of its first cell from there on, or one behind
+/// all its cells, and of its last cell.
+fn scan_column(
     cells: &CellRuns,
     levels: &[usize],
     area: &Area,
-    from: usize,
+    first: usize,
+    last: usize,
     least: usize,
 ) -> (usize, usize)
     requires in_order { AllPairs IsBefore cells.now }
     requires size { length levels.now ≡ length cells.now }
-    requires within { from ≤ length cells.now }
     requires column { area.now.first_col ≡ area.now.last_col }
-    requires row { area.now.first_row ≡ area.now.last_row }
-    ensures scan { IsScan cells.now levels.now area.now from least result.0 result.1 }
+    requires first { IsNextIn cells.now area.now first first }
+    requires last { IsLastAt cells.now area.now last }
+    ensures scan { IsScan cells.now levels.now area.now first least result.0 result.1 }
     ensures stopped { result.0 < length cells.now → level levels.now result.0 ≤ 2 }
 {
-    let place = one_from(cells, area, from);
-    if place < levels.len() && levels[place] >= FIRST {
-        return (levels.len(), least.max(levels[place]));
+    let mut place = first;
+    let mut greatest = least;
+    while place <= last && levels[place] >= FIRST {
+        greatest = greatest.max(levels[place]);
+        place += 1;
     }
-    (place, least)
+    if place <= last {
+        return (place, greatest);
+    }
+    (levels.len(), greatest)
 }
 
 /// The same for any area.
@@ -107,10 +115,27 @@ fn scan(
     ensures scan { IsScan cells.now levels.now area.now from least result.0 result.1 }
     ensures stopped { result.0 < length cells.now → level levels.now result.0 ≤ 2 }
 {
-    if area.first_row == area.last_row && area.first_col == area.last_col {
-        return scan_one(cells, levels, area, from, least);
+    let is_row = area.first_row == area.last_row;
+    if area.first_col != area.last_col {
+        return scan_all(cells, levels, area, from, least);
     }
-    scan_all(cells, levels, area, from, least)
+    let end = Cell {
+        sheet: area.sheet,
+        col: area.last_col,
+        row: area.last_row,
+    };
+    match cells.place(end) {
+        Some(last) => {
+            let first = if is_row && from <= last {
+                last
+            } else {
+                next_in(cells, area, from)
+            };
+            scan_column(cells, levels, area, first, last, least)
+        }
+        None if is_row => (levels.len(), least),
+        None => scan_all(cells, levels, area, from, least),
+    }
 }
 
 /// Looks at what a cell reads from a cursor on, until a cell is met that has no wave.
