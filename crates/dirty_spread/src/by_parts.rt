@@ -49,8 +49,8 @@ fn area_at(ear: &Ear, step: u32) -> Option<Area>
     })
 }
 
-/// The areas that a row reads so many rows below the first one, or false where one of them isn't one
-/// of the sheet.
+/// The areas that a row reads so many rows below the first one, or false where one isn't of the
+/// sheet.
 fn row_areas(ears: &[Ear], step: u32, areas: &mut Vec<Area>) -> Result<bool, NoMemory>
     requires { step ≤ LAST_ROW }
     ensures { IfOk result (λ known. known ≡ true →
@@ -176,8 +176,8 @@ fn level_part<H: Dependents>(
     )
 }
 
-/// Gives cells their waves that stand one behind the other in the list, from the first one on, while
-/// all that they read has waves.
+/// Gives cells their waves that stand one behind the other in the list, from the first one on,
+/// while all that they read has waves.
 fn level_cells<H: Dependents>(
     place: usize,
     count: usize,
@@ -204,8 +204,8 @@ fn level_cells<H: Dependents>(
     Ok(())
 }
 
-/// Gives cells of a run their waves, from the first one on, where the last one has none yet. The run
-/// stands in the list from a place on.
+/// Gives cells of a run their waves, from the first one on, where the last one has none yet. The
+/// run stands in the list from a place on.
 fn level_run<H: Dependents>(
     alloc: Global,
     run: Run,
@@ -295,8 +295,8 @@ fn level_backwards<H: Dependents>(
 }
 
 /// Gives stale cells their waves that can be gone down row by row, run by run, forwards and then
-/// backwards, while all that they read has waves. The rows of a part of a run are asked together what
-/// they read. It is linear in the cells and what they read.
+/// backwards, while all that they read has waves. The rows of a part of a run are asked together
+/// what they read. It is linear in the cells and the stale cells that they read.
 pub(crate) fn level_runs<H: Dependents>(
     alloc: Global,
     stale: &CellRuns,
