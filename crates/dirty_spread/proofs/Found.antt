@@ -7,6 +7,8 @@ use Rattle.std.proofs.lemmas.List.{get_or_default}
 use Rattle.std.proofs.lemmas.Option.{get_or_from_slice_get, slice_get_within, slice_get-get_or}
 use Rattle.calc_addr.specs.Places.{IsBefore, IsRectangle, Place, Rectangle, corner, covers}
 use Rattle.calc_model.proofs.Places.{places_total}
+use Rattle.calc_model.proofs.Areas.{Inside, inside}
+use Rattle.dirty_spread.proofs.Listing.{Before, before}
 use Rattle.dirty_spread.proofs.Stepping.{covers_corner, only_cell}
 use Rattle.dirty_spread.specs.Finding.{IsFirstFrom, IsNextIn, at}
 
@@ -97,18 +99,17 @@ module _ (cells : List Place) (in_order : AllPairs IsBefore cells) where
           none = λ i low high. false_from_ne_true (covers area (at cells i)) (λ c. absurd (omega (arith, alone i place (omega (arith, here.0)) here.0 here.1 c)));
         }
 
-    pub one_behind : (from place : ℕ) → place < from → slice_get cells place ≡ Some (corner area) → IsNextIn cells area from (length cells)
-    one_behind from place less is =
-        let here = at_some cells place (corner area) is in
-        record {
-          within = omega arith;
-          here = λ l. absurd (omega arith);
-          none = λ i low high. false_from_ne_true (covers area (at cells i)) (λ c. absurd (omega (arith, alone i place high here.0 here.1 c)));
-        }
-
-    pub one_absent : (from : ℕ) → (Contains cells (corner area) → ⊥) → IsNextIn cells area from (length cells)
-    one_absent from absent = record {
-      within = omega arith;
-      here = λ l. absurd (omega arith);
-      none = λ i low high. false_from_ne_true (covers area (at cells i)) (λ c. absent (subst (Contains cells) (only_cell area (at cells i) col row c) (at_holds cells i high)));
-    }
+  -- the first cell of an area is the next one of it
+  pub first_found : (area : Rectangle) → IsRectangle area → (from place : ℕ) → slice_get cells place ≡ Some (corner area) → IsNextIn cells area from place
+  first_found area rectangle from place is =
+      let here = at_some cells place (corner area) is in
+      record {
+        within = omega (arith, here.0);
+        here = λ less. subst (λ p. covers area p ≡ true) (sym here.1) (covers_corner area rectangle.cols_in_order rectangle.rows_in_order);
+        none = λ i low high. false_from_ne_true (covers area (at cells i)) (λ c. none_before area (at cells i) c (before (at cells i) (corner area) (subst (λ p. IsBefore (at cells i) p) here.1 (turn i place high here.0))));
+      }
+    where
+      none_before : (area : Rectangle) (q : Place) → covers area q ≡ true → Before q (corner area) → ⊥
+      none_before area q c (Before.by_sheet h) = let l : Inside area q = inside area q c in omega (arith, l.same_sheet)
+      none_before area q c (Before.by_col e h) = let l : Inside area q = inside area q c in omega (arith, l.col_from)
+      none_before area q c (Before.by_row e f h) = let l : Inside area q = inside area q c in omega (arith, l.row_from)

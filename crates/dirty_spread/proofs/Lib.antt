@@ -9,9 +9,9 @@
 -- Listing: the places of a run's cells in a list in order.
 -- Looks: areas looked at, one more.
 -- Orders: levels of stale cells, one step more.
--- PartLists: lists of cells that are kept as runs.
 -- Passed: circular cells of an area, one more.
 -- Reading: which cells are formula cells, and which are stale, by what they read.
+-- RowLevels: rows of parts that get their waves.
 -- Scans: levels of the cells of an area, one cell more.
 -- SpreadExamples: worked examples of stale cells.
 -- Spreads: what a search of stale cells has found.
@@ -30,9 +30,9 @@ pub mod Leveled
 pub mod Listing
 pub mod Looks
 pub mod Orders
-pub mod PartLists
 pub mod Passed
 pub mod Reading
+pub mod RowLevels
 pub mod Scans
 mod SpreadExamples
 pub mod Spreads

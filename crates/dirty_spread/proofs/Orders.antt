@@ -22,7 +22,7 @@ use Rattle.dirty_spread.proofs.Dones.{area_of_one, done_by, good_other, good_sta
 use Rattle.dirty_spread.proofs.Found.{at_holds, at_of}
 
 -- levels that agree where a cell has a wave
-abbrev KeepsWaves : List ℕ → List ℕ → Type 0
+abbrev pub KeepsWaves : List ℕ → List ℕ → Type 0
 KeepsWaves old new = (i : ℕ) → 3 ≤ level old i → level new i ≡ level old i
 
 pub looked_kept : (cells : List Place) (circular : CellSet) (areas : List Rectangle) (old new : List ℕ) (cursor : Cursor) → KeepsWaves old new → IsLooked cells circular areas old cursor → IsLooked cells circular areas new cursor
@@ -52,7 +52,7 @@ level_same levels i v within = get_or-set_same levels i v 0 within
 pub level_other : (levels : List ℕ) (i j v : ℕ) → (j ≡ i → ⊥) → level (set levels i v) j ≡ level levels j
 level_other levels i j v ne = get_or-set_other levels i j v 0 ne
 
-set_keeps : (levels : List ℕ) (i v : ℕ) → level levels i ≤ 2 → KeepsWaves levels (set levels i v)
+pub set_keeps : (levels : List ℕ) (i v : ℕ) → level levels i ≤ 2 → KeepsWaves levels (set levels i v)
 set_keeps levels i v low j high = level_other levels i j v (λ e. let same : level levels j ≡ level levels i = ap (level levels) e in absurd (omega arith))
 
 abbrev pub new_once : ℕ → ℕ

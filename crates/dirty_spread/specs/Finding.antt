@@ -19,6 +19,10 @@ pub record IsNextIn (cells : List Place) (area : Rectangle) (from place : ℕ) :
   pub here : place < length cells → covers area (at cells place) ≡ true
   pub none : (i : ℕ) → from ≤ i → i < place → covers area (at cells i) ≡ false
 
+-- The place is that of the last cell of an area.
+abbrev pub IsLastAt : List Place → Rectangle → ℕ → Type 0
+IsLastAt cells area last = (last < length cells) × (at cells last ≡ record { sheet = area.sheet; col = area.last_col; row = area.last_row })
+
 -- Behind a cell that isn't in the area no cell before that one is, or none at all.
 abbrev pub IsSkip : Rectangle → Place → Option Place → Type 0
 IsSkip area cell None = (q : Place) → IsBefore cell q → covers area q ≡ false

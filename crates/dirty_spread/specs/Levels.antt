@@ -1,16 +1,16 @@
 -- Levels of stale cells while their waves are found: 0 before a cell is looked at, 1 while it is, 2 where it is in no
 -- wave, and k + 3 where it is in the wave of number k.
-use Rattle.std.specs.Prelude.{◌≡◌, ◌≢◌, ◌≤◌, ◌<◌, ◌⊎◌, ℕ, suc, ◌+◌, ◌*◌, ◌==◌, true, false, List, length, slice_index, slice_index_or, Contains}
+use Rattle.std.specs.Prelude.{◌≡◌, ◌≢◌, ◌≤◌, ◌<◌, ◌⊎◌, ℕ, suc, ◌+◌, ◌*◌, ◌==◌, true, false, List, [], length, slice_index, slice_index_or, Contains}
 use Rattle.std.specs.List.{All, AllPairs, count_by, list_any}
-use Rattle.calc_addr.specs.Places.{Place, Rectangle, covers}
-use Rattle.calc_model.specs.Listeners.{listed}
+use Rattle.calc_addr.specs.Places.{IsBefore, Place, Rectangle, covers}
+use Rattle.calc_model.specs.Listeners.{ReadAreas, listed}
 use Rattle.calc_model.specs.Touched.{CellSet}
 use Rattle.dirty_spread.specs.declared.look.Cursor.{Cursor}
 use Rattle.dirty_spread.specs.declared.look.Frame.{Frame}
 use Rattle.dirty_spread.specs.declared.look.Seen.{Seen}
 use Rattle.dirty_spread.specs.declared.look.Seen.TheVariants as seen
 use Rattle.dirty_spread.specs.Finding.{at}
-use Rattle.dirty_spread.specs.Waves.{Problem, has, is_done}
+use Rattle.dirty_spread.specs.Waves.{Problem, has, is_done, problem_of}
 
 abbrev pub level : List ℕ → ℕ → ℕ
 level levels i = slice_index levels i
@@ -23,6 +23,15 @@ IsSettled levels greatest i = (3 ≤ level levels i) × (level levels i ≤ grea
 pub record IsScan (cells : List Place) (levels : List ℕ) (area : Rectangle) (from least place greatest : ℕ) : Type 0 where
   pub within : place ≤ length cells
   pub here : place < length cells → covers area (at cells place) ≡ true
+  pub settled : (i : ℕ) → from ≤ i → i < place → covers area (at cells i) ≡ true → IsSettled levels greatest i
+  pub more : least ≤ greatest
+  pub attained : (greatest ≡ least) ⊎ ((i : ℕ) × (i < length cells) × (covers area (at cells i) ≡ true) × (level levels i ≡ greatest))
+
+-- The same for an area of one column up to the place of its last cell.
+pub record IsColumnScan (cells : List Place) (levels : List ℕ) (area : Rectangle) (from last least place greatest : ℕ) : Type 0 where
+  pub on : from ≤ place
+  pub within : place ≤ length cells
+  pub here : place ≤ last → covers area (at cells place) ≡ true
   pub settled : (i : ℕ) → from ≤ i → i < place → covers area (at cells i) ≡ true → IsSettled levels greatest i
   pub more : least ≤ greatest
   pub attained : (greatest ≡ least) ⊎ ((i : ℕ) × (i < length cells) × (covers area (at cells i) ≡ true) × (level levels i ≡ greatest))
@@ -100,6 +109,12 @@ pub record AreLevels (problem : Problem) (levels : List ℕ) : Type 0 where
   pub circular : (i k : ℕ) → i < length problem.stale → level levels i ≡ 2 → is_done problem k (at problem.stale i) ≡ false
   pub settled : (i : ℕ) → i < length problem.stale → 2 ≤ level levels i
   pub bound : (i : ℕ) → level levels i ≤ 2 * length problem.stale + 3
+
+-- Both lists are in order, and some levels are right, none of a cell that is being looked at.
+pub record AreUnderWay (read : ReadAreas) (stale circles : List Place) (levels : List ℕ) : Type 0 where
+  pub in_order : AllPairs IsBefore stale
+  pub circles_in_order : AllPairs IsBefore circles
+  pub ordering : IsOrdering (problem_of read stale circles) levels []
 
 -- The place's level may be made 2.
 abbrev pub IsClosable : List ℕ → Frame → Type 0

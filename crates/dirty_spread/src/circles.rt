@@ -5,7 +5,7 @@ ghost use Rattle.calc_addr.specs.Places.{IsBefore, Place};
 ghost use Rattle.dirty_spread.specs.Finding.{IsCircleIn, at};
 ghost use Rattle.dirty_spread.specs.Waves.{has};
 
-use crate::finding::next_in;
+use crate::finding::{next_in, next_of};
 use calc_addr::{Area, Cell};
 use cell_runs::CellRuns;
 
@@ -43,7 +43,7 @@ fn has_one(cells: &CellRuns, circles: &CellRuns, area: &Area) -> bool
         if lacks_at(cells, circles, place) {
             return true;
         }
-        place = next_in(circles, area, place + 1);
+        place = next_of(circles, area, place + 1);
     }
     false
 }

@@ -69,34 +69,9 @@ fn skip(area: &Area, cell: &Cell) -> Option<Cell>
     None
 }
 
-/// The same for an area of one cell, in the logarithm of the runs.
-fn one_from(cells: &CellRuns, area: &Area, from: usize) -> usize
-    requires in_order { AllPairs IsBefore cells.now }
-    requires within { from ≤ length cells.now }
-    requires column { area.now.first_col ≡ area.now.last_col }
-    requires row { area.now.first_row ≡ area.now.last_row }
-    ensures from { from ≤ result }
-    ensures next { IsNextIn cells.now area.now from result }
-{
-    let cell = Cell {
-        sheet: area.sheet,
-        col: area.first_col,
-        row: area.first_row,
-    };
-    match cells.place(cell) {
-        Some(place) => {
-            if place < from {
-                return cells.len();
-            }
-            place
-        }
-        None => cells.len(),
-    }
-}
-
 /// The place of the first cell of an area from a place of the list on, or how many cells there are.
 /// It skips what lies between two columns of the area by a search.
-fn next_of(cells: &CellRuns, area: &Area, from: usize) -> usize
+pub(crate) fn next_of(cells: &CellRuns, area: &Area, from: usize) -> usize
     requires in_order { AllPairs IsBefore cells.now }
     requires within { from ≤ length cells.now }
     ensures from { from ≤ result }
@@ -115,15 +90,20 @@ fn next_of(cells: &CellRuns, area: &Area, from: usize) -> usize
     at
 }
 
-/// The place of the first cell of an area from a place of the list on, or how many cells there are.
+/// The same, found at once where the area's first cell stands in the list from that place on.
 pub(crate) fn next_in(cells: &CellRuns, area: &Area, from: usize) -> usize
     requires in_order { AllPairs IsBefore cells.now }
     requires within { from ≤ length cells.now }
     ensures from { from ≤ result }
     ensures next { IsNextIn cells.now area.now from result }
 {
-    if area.first_row == area.last_row && area.first_col == area.last_col {
-        return one_from(cells, area, from);
+    let first = Cell {
+        sheet: area.sheet,
+        col: area.first_col,
+        row: area.first_row,
+    };
+    match cells.place(first) {
+        Some(place) if place >= from => place,
+        _ => next_of(cells, area, from),
     }
-    next_of(cells, area, from)
 }

@@ -7,15 +7,14 @@ ghost use Rattle.dirty_spread.specs.Finding.{at};
 ghost use Rattle.dirty_spread.specs.Waves.{problem_of};
 ghost use Rattle.dirty_spread.specs.Levels.{AreLevels, IsCircular, IsClosable, IsClosed, IsOpen, IsOrdering, level, rest};
 
-use crate::look::{CIRCULAR, Cursor, Frame, Seen, look};
+use crate::by_parts::level_runs;
+use crate::look::{CIRCULAR, Cursor, Frame, NEW, Seen, look};
 use calc_addr::{Area, NoMemory};
 use calc_model::Dependents;
 use cell_runs::CellRuns;
 use std::alloc::Global;
 
-/// The level of a cell that wasn't looked at, and of one that is being looked at.
-const NEW: usize = 0;
-
+/// The level of a cell that is being looked at.
 const OPEN: usize = 1;
 
 /// Says of cells that they are in no wave.
@@ -84,7 +83,7 @@ fn frame_at(place: usize) -> Frame
 }
 
 /// The areas that a stale cell reads.
-fn read_areas<H: Dependents>(
+pub(crate) fn read_areas<H: Dependents>(
     stale: &CellRuns,
     hub: &H,
     place: usize,
@@ -194,6 +193,7 @@ pub(crate) fn find_levels<H: Dependents>(
     ensures { OnOk result (AreLevels
         (problem_of (H.areas hub.now) stale.now circles.now) levels.new) }
 {
+    level_runs(alloc, stale, circles, hub, levels)?;
     let mut path = Vec::new(alloc);
     let mut areas = Vec::new(alloc);
     for place in 0..levels.len() {

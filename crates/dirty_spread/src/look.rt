@@ -2,13 +2,17 @@
 ghost use Rattle.std.specs.Prelude.{◌≡◌, ◌≤◌, ◌<◌, false, length, true};
 ghost use Rattle.std.specs.List.{AllPairs};
 ghost use Rattle.calc_addr.specs.Places.{IsBefore, Place, covers};
+ghost use Rattle.dirty_spread.specs.Finding.{IsLastAt, IsNextIn};
 ghost use Rattle.dirty_spread.specs.Levels.{IsLooked, IsScan, IsSeen, level};
 ghost use Rattle.dirty_spread.specs.Waves.{has};
 
 use crate::circles::has_circle;
-use crate::finding::next_in;
-use calc_addr::Area;
+use crate::finding::{next_in, next_of};
+use calc_addr::{Area, Cell};
 use cell_runs::CellRuns;
+
+/// The level of a cell that wasn't looked at.
+pub(crate) const NEW: usize = 0;
 
 /// The level of a cell in no wave.
 pub(crate) const CIRCULAR: usize = 2;
@@ -45,7 +49,7 @@ pub(crate) enum Seen {
 
 /// Goes over the cells of an area from a place on while they have waves, and gives the place of the
 /// first that hasn't, or how many cells there are, and the greatest level.
-fn scan(
+fn scan_all(
     cells: &CellRuns,
     levels: &[usize],
     area: &Area,
@@ -62,9 +66,76 @@ fn scan(
     let mut greatest = least;
     while place < levels.len() && levels[place] >= FIRST {
         greatest = greatest.max(levels[place]);
-        place = next_in(cells, area, place + 1);
+        place = next_of(cells, area, place + 1);
     }
     (place, greatest)
+}
+
+/// The same for an area of one column, by the places of its first cell from there on, or one behind
+/// all its cells, and of its last cell.
+fn scan_column(
+    cells: &CellRuns,
+    levels: &[usize],
+    area: &Area,
+    first: usize,
+    last: usize,
+    least: usize,
+) -> (usize, usize)
+    requires in_order { AllPairs IsBefore cells.now }
+    requires size { length levels.now ≡ length cells.now }
+    requires column { area.now.first_col ≡ area.now.last_col }
+    requires first { IsNextIn cells.now area.now first first }
+    requires last { IsLastAt cells.now area.now last }
+    ensures scan { IsScan cells.now levels.now area.now first least result.0 result.1 }
+    ensures stopped { result.0 < length cells.now → level levels.now result.0 ≤ 2 }
+{
+    let mut place = first;
+    let mut greatest = least;
+    while place <= last && levels[place] >= FIRST {
+        greatest = greatest.max(levels[place]);
+        place += 1;
+    }
+    if place <= last {
+        return (place, greatest);
+    }
+    (levels.len(), greatest)
+}
+
+/// The same for any area.
+fn scan(
+    cells: &CellRuns,
+    levels: &[usize],
+    area: &Area,
+    from: usize,
+    least: usize,
+) -> (usize, usize)
+    requires in_order { AllPairs IsBefore cells.now }
+    requires size { length levels.now ≡ length cells.now }
+    requires within { from ≤ length cells.now }
+    ensures scan { IsScan cells.now levels.now area.now from least result.0 result.1 }
+    ensures stopped { result.0 < length cells.now → level levels.now result.0 ≤ 2 }
+{
+    let is_row = area.first_row == area.last_row;
+    if area.first_col != area.last_col {
+        return scan_all(cells, levels, area, from, least);
+    }
+    let end = Cell {
+        sheet: area.sheet,
+        col: area.last_col,
+        row: area.last_row,
+    };
+    match cells.place(end) {
+        Some(last) => {
+            let first = if is_row && from <= last {
+                last
+            } else {
+                next_in(cells, area, from)
+            };
+            scan_column(cells, levels, area, first, last, least)
+        }
+        None if is_row => (levels.len(), least),
+        None => scan_all(cells, levels, area, from, least),
+    }
 }
 
 /// Looks at what a cell reads from a cursor on, until a cell is met that has no wave.

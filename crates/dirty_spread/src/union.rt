@@ -54,8 +54,8 @@ fn push_runs(runs: &[Run], cells: &mut CellRuns) -> Result<(), NoMemory>
     Ok(())
 }
 
-/// The cells of runs in any order, each once, in the order of cells. Linear in the runs, with a sort
-/// of them.
+/// The cells of runs in any order, each once, in the order of cells. Linear in the runs, with a
+/// sort of them.
 pub fn union_of_runs(alloc: Global, mut runs: Vec<Run>) -> Result<CellRuns, NoMemory>
     ensures { IfOk result (AreUnion runs.items) }
 {

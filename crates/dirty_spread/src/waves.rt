@@ -10,10 +10,9 @@ ghost use Rattle.dirty_spread.specs.Waves.{AreAll, AreWaves, IsInNone, problem_o
 use crate::level_lists::lists;
 use crate::leveling::find_levels;
 use crate::look::CIRCULAR;
-use crate::wave_list::WaveList;
 use calc_addr::{NoMemory, Run};
 use calc_model::Dependents;
-use cell_runs::CellRuns;
+use cell_runs::{CellRuns, WaveList};
 use std::alloc::Global;
 
 /// Appends the cell at a place.
@@ -80,12 +79,13 @@ fn order_with<H: Dependents>(
 }
 
 /// The waves of stale cells. Each one that reaches no circle stands in the first wave behind those
-/// of all stale cells that it reads. `circles` has the circular cells beside the stale ones, and may
-/// have stale ones too, of which it says nothing.
+/// of all stale cells that it reads. `circles` has the circular cells beside the stale ones, and
+/// may have stale ones too, of which it says nothing.
 ///
-/// Each stale cell is asked what it reads once, and once more for each cell that it is first to go
-/// on to. The stale cells of an area are gone over once by each cell that reads it. Sorts the stale
-/// cells by their waves.
+/// Where stale cells stand in long runs that can be gone down row by row, the hub is asked for the
+/// parts of these runs alone. Each other stale cell is asked what it reads up to three times, and
+/// once more for each cell that it is first to go on to. The stale cells of an area are gone over
+/// once by each cell that reads it. Takes a few numbers a cell and a wave beside what it answers.
 pub fn order<H: Dependents>(
     alloc: Global,
     stale: &CellRuns,

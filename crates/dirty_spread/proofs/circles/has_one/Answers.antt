@@ -10,7 +10,7 @@ loop-place-init c = passed_none c.args.cells.now c.args.circles.now c.args.area.
 pub loop-place-preserved : goal.loop-place-preserved
 loop-place-preserved c =
     passed_more c.args.cells.now c.args.circles.now c.args.area.now c.loop-place.place c.loop-place.invariant
-    (not-false _ (sym c.lacks_at.ensures ∙ c.if-lacks_at.false)) c.next_in-place-in-loop-place.result c.next_in-place-in-loop-place.ensures.next
+    (not-false _ (sym c.lacks_at.ensures ∙ c.if-lacks_at.false)) c.next_of-place.result c.next_of-place.ensures.next
 
 pub returns-then-lacks_at-clause-yes : goal.returns-then-lacks_at-clause-yes
 returns-then-lacks_at-clause-yes c = λ same. (

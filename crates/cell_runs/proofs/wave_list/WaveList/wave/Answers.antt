@@ -1,8 +1,8 @@
 use Rattle.std.proofs.Common.{◌<◌, [], length, get_or, sym, ap, subst, ◌∙◌, arith}
 use Rattle.cell_runs.specs.CellLists.{all_cells}
-use Rattle.dirty_spread.specs.WaveLists.{AreStarts, part}
-use Rattle.dirty_spread.proofs.PartLists.{list_at, lists_size}
-use Rattle.dirty_spread.proofs.wave_list.WaveList.wave.Goals as goal
+use Rattle.cell_runs.specs.WaveLists.{AreStarts, part}
+use Rattle.cell_runs.proofs.PartLists.{list_at, lists_size}
+use Rattle.cell_runs.proofs.wave_list.WaveList.wave.Goals as goal
 
 pub list_at-requires-clause-starts : goal.list_at-requires-clause-starts
 list_at-requires-clause-starts c =

@@ -1,6 +1,6 @@
 use Rattle.std.proofs.Common.{◌≤◌, ◌-◌, length}
 use Rattle.dirty_spread.specs.Levels.{IsScan}
-use Rattle.dirty_spread.proofs.look.scan.Given as goal
+use Rattle.dirty_spread.proofs.look.scan_all.Given as goal
 
 abbrev pub invariant-loop-place : goal.invariant-loop-place
 invariant-loop-place l = record {

@@ -1,9 +1,8 @@
 use Rattle.std.proofs.Common.{◌≡◌, ◌<◌, ◌-◌, ◌∷◌, ◌++◌, [], List, length, sym, ap, subst, ◌∙◌, arith}
 use Rattle.calc_addr.specs.Places.{Place, Rows}
-use Rattle.dirty_spread.specs.LevelLists.{IsAdded}
-use Rattle.dirty_spread.specs.WaveLists.{AreStarts, lists_of}
-use Rattle.dirty_spread.proofs.PartLists.{added, lists_size, not_none, one_cell, starts_more}
-use Rattle.dirty_spread.proofs.wave_list.WaveList.append.Goals as goal
+use Rattle.cell_runs.specs.WaveLists.{AreStarts, IsAdded, lists_of}
+use Rattle.cell_runs.proofs.PartLists.{added, lists_size, not_none, one_cell, starts_more}
+use Rattle.cell_runs.proofs.wave_list.WaveList.append.Goals as goal
 
 abbrev run_of : Place → Rows
 run_of q = record { sheet = q.sheet; col = q.col; first = q.row; last = q.row }

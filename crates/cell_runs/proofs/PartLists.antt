@@ -10,8 +10,7 @@ use Rattle.std.proofs.lemmas.List.FromFn.{get_or-map-range_with_len, length-map-
 use Rattle.calc_addr.specs.Places.{Place, Rows}
 use Rattle.cell_runs.specs.CellLists.{all_cells, cells_of}
 use Rattle.cell_runs.proofs.Indexed.{cells-joined}
-use Rattle.dirty_spread.specs.LevelLists.{IsAdded, IsOpened}
-use Rattle.dirty_spread.specs.WaveLists.{AreStarts, lists_of, part}
+use Rattle.cell_runs.specs.WaveLists.{AreStarts, IsAdded, IsOpened, lists_of, part}
 
 pub lists_size : (runs : List Rows) (starts : List ℕ) → length (lists_of runs starts) ≡ length starts
 lists_size runs starts = length-map-range_with_len (λ k. all_cells (part runs starts k)) 0 (length starts)

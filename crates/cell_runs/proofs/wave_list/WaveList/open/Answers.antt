@@ -1,9 +1,8 @@
 use Rattle.std.proofs.Common.{◌≡◌, ◌∷◌, ◌++◌, [], ℕ, List, length, sym, ap, subst, ◌∙◌, rules}
 use Rattle.calc_addr.specs.Places.{Place}
-use Rattle.dirty_spread.specs.LevelLists.{IsOpened}
-use Rattle.dirty_spread.specs.WaveLists.{lists_of}
-use Rattle.dirty_spread.proofs.PartLists.{opened}
-use Rattle.dirty_spread.proofs.wave_list.WaveList.open.Goals as goal
+use Rattle.cell_runs.specs.WaveLists.{IsOpened, lists_of}
+use Rattle.cell_runs.proofs.PartLists.{opened}
+use Rattle.cell_runs.proofs.wave_list.WaveList.open.Goals as goal
 
 pub returns : goal.returns
 returns c =

@@ -1,7 +1,6 @@
 ghost use Rattle.std.specs.Prelude.{◌≡◌, ◌≢◌, ◌≤◌, ◌<◌, ◌+◌, ◌-◌, ◌↔◌, [], false, length, slice_index_or, IsTrue, OnOk};
 ghost use Rattle.std.specs.List.{slice_range};
-ghost use Rattle.dirty_spread.specs.LevelLists.{IsAdded, IsOpened};
-ghost use Rattle.dirty_spread.specs.WaveLists.{AreStarts, part};
+ghost use Rattle.cell_runs.specs.WaveLists.{AreStarts, IsAdded, IsOpened, part};
 ghost use Rattle.cell_runs.specs.CellLists.{all_cells};
 
 use calc_addr::{Cell, NoMemory, Run};
@@ -19,7 +18,7 @@ pub struct WaveList {
 impl Model for WaveList {
     ghost use Rattle.std.specs.Prelude.{List};
     ghost use Rattle.calc_addr.specs.Places.{Place};
-    ghost use Rattle.dirty_spread.specs.WaveLists.{AreStarts, lists_of};
+    ghost use Rattle.cell_runs.specs.WaveLists.{AreStarts, lists_of};
 
     ghost Value = { List (List Place) };
 
@@ -68,7 +67,7 @@ fn list_at<'a>(runs: &'a [Run], starts: &[usize], k: usize) -> &'a [Run]
 
 impl WaveList {
     /// No lists, which takes no memory.
-    pub(crate) fn new(alloc: Global) -> WaveList
+    pub fn new(alloc: Global) -> WaveList
         ensures { result ≡ [] }
     {
         WaveList {
@@ -93,7 +92,7 @@ impl WaveList {
     }
 
     /// Appends a list without cells.
-    pub(crate) fn open(&mut self) -> Result<(), NoMemory>
+    pub fn open(&mut self) -> Result<(), NoMemory>
         ensures { OnOk result (IsOpened self.old self.new) }
     {
         self.starts.push(self.runs.len())?;
@@ -126,7 +125,7 @@ impl WaveList {
     }
 
     /// Appends a cell to the last list.
-    pub(crate) fn push(&mut self, cell: Cell) -> Result<(), NoMemory>
+    pub fn push(&mut self, cell: Cell) -> Result<(), NoMemory>
         requires { self.old ≢ [] }
         ensures { OnOk result (IsAdded self.old self.new (length self.old - 1) cell) }
     {

@@ -3,10 +3,9 @@ use Rattle.std.proofs.Math.ListN.{set}
 use Rattle.std.proofs.lemmas.List.{get_or_default}
 use Rattle.calc_addr.specs.Places.{IsRows, Place, Rows}
 use Rattle.cell_runs.specs.CellLists.{cells_of}
-use Rattle.dirty_spread.specs.LevelLists.{IsAdded}
-use Rattle.dirty_spread.specs.WaveLists.{lists_of}
-use Rattle.dirty_spread.proofs.PartLists.{added_last, cells_below}
-use Rattle.dirty_spread.proofs.wave_list.WaveList.lengthen.Goals as goal
+use Rattle.cell_runs.specs.WaveLists.{IsAdded, lists_of}
+use Rattle.cell_runs.proofs.PartLists.{added_last, cells_below}
+use Rattle.cell_runs.proofs.wave_list.WaveList.lengthen.Goals as goal
 
 pub returns-clause-yes : goal.returns-clause-yes
 returns-clause-yes c = λ holds.
