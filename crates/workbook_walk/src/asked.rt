@@ -35,8 +35,7 @@ fn groups(alloc: Global, column: &[(u32, &Held)]) -> Result<Vec<(u32, u32)>, All
             let next = printed(alloc, &held.pieces, *row)?;
             match groups.last_mut() {
                 Some(group)
-                    if group.1.saturating_add(1) == *row && form.as_str() == next.as_str() =>
-                {
+                    if group.1.saturating_add(1) == *row && form.as_str() == next.as_str() => {
                     group.1 = *row;
                 }
                 _ => groups.push((*row, *row))?,
@@ -60,10 +59,10 @@ fn push_rows(
     match blocks.last_mut() {
         Some(block) if block.2 == kind => {
             block.1 = last;
-            Ok(())
         }
-        _ => blocks.push((first, last, kind)),
+        _ => blocks.push((first, last, kind))?,
     }
+    Ok(())
 }
 
 /// The runs of a column's rows with one kind.
@@ -105,10 +104,8 @@ fn has_groups(workbook: &Workbook, sheet: u8, col: u16, wanted: &[(u32, u32)]) -
 {
     let told = workbook.groups(sheet, col);
     told.len() == wanted.len()
-        && told
-            .iter()
-            .zip(wanted.iter())
-            .all(|(group, rows)| group.first == rows.0 && group.last == rows.1)
+        && told.iter().zip(wanted.iter()).all(|(group, rows)| group.first == rows.0
+            && group.last == rows.1)
 }
 
 /// Whether the workbook has these blocks in a column.

@@ -170,11 +170,7 @@ impl Book {
         Ok(cells)
     }
 
-    fn define(
-        &mut self,
-        name: &'static str,
-        part: &Part,
-    ) -> Result<Option<EditCause>, AllocError> {
+    fn define(&mut self, name: &'static str, part: &Part) -> Result<Option<EditCause>, AllocError> {
         if BAD_NAMES.contains(&name) {
             return Ok(Some(EditCause::BadName));
         }

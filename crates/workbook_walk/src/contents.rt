@@ -1,7 +1,7 @@
 //! What cells hold, and the edits, that are drawn.
 use crate::book::Held;
-use crate::numbers::Numbers;
 use crate::drawn::part;
+use crate::numbers::Numbers;
 use crate::pieces::{End, Piece, Reference};
 use crate::places::{LAST_COL, LAST_ROW};
 use block_column::Kind;
@@ -92,9 +92,11 @@ fn push_operand(
     near: u32,
 ) -> Result<(), AllocError> {
     if numbers.is_one_of(4) {
-        return pieces.push(Piece::Name(name(numbers)));
+        pieces.push(Piece::Name(name(numbers)))?;
+    } else {
+        pieces.push(Piece::Reference(reference(numbers, near)))?;
     }
-    pieces.push(Piece::Reference(reference(numbers, near)))
+    Ok(())
 }
 
 /// A call, a sum of two operands, or a formula that reads nothing.

@@ -49,7 +49,13 @@ pub(crate) fn part(numbers: &mut Numbers) -> Part {
     let (sheet, left, first) = place(numbers);
     match numbers.below(20) {
         0 => return (sheet, left, left, 1, LAST_ROW),
-        1 => return (sheet, 1, LAST_COL, first, first.saturating_add(1).min(LAST_ROW)),
+        1 => return (
+            sheet,
+            1,
+            LAST_COL,
+            first,
+            first.saturating_add(1).min(LAST_ROW),
+        ),
         _ => {}
     }
     small_part(numbers, (sheet, left, first))
@@ -62,4 +68,3 @@ pub(crate) fn small_part(numbers: &mut Numbers, from: Place) -> Part {
     let last = first.saturating_add(numbers.below(12));
     (sheet, left, right.min(LAST_COL), first, last.min(LAST_ROW))
 }
-

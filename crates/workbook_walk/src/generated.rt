@@ -35,7 +35,8 @@ fn push(book: &mut Book, col: u16, row: u32, pieces: Vec<Piece>) -> Result<(), A
     book.cells.push(HeldCell {
         place: (0, col, row),
         held: Held { kind, pieces },
-    })
+    })?;
+    Ok(())
 }
 
 /// The generated book of a start and a number of rows.
@@ -45,8 +46,7 @@ pub(crate) fn generated(alloc: Global, start: u32, rows: u32) -> Result<Book, Al
         let number = (u64::from(start) + 37 * u64::from(row)) % 1_000;
         let one = vec![in alloc; Piece::Number(number as u32)]?;
         push(&mut book, 1, row, one)?;
-        let doubled =
-            vec![in alloc; Piece::Text("="), rows_of(1, row, row), Piece::Text("*2")]?;
+        let doubled = vec![in alloc; Piece::Text("="), rows_of(1, row, row), Piece::Text("*2")]?;
         push(&mut book, 2, row, doubled)?;
         let mut summed = vec![in alloc; Piece::Text("=")]?;
         if row > 1 {

@@ -17,19 +17,23 @@ mod places;
 mod rows;
 mod walk;
 
-use crate::walk::walk;
+use crate::walk::{Outcome, walk};
 use std::process::ExitCode;
 
 /// How many edits it makes.
 const EDITS: u32 = 2_000;
 
 fn main(rt: HostRuntime) -> Result<ExitCode, anyhow::Error> {
-    let outcome = walk(rt.alloc(), EDITS)?;
-    if let Some((change, difference)) = outcome.failure {
-        println!(rt; "edit {}: {change:?} leaves a difference in {difference:?}", outcome.edits)?;
+    let Outcome {
+        edits,
+        refused,
+        failure,
+    } = walk(rt.alloc(), EDITS)?;
+    if let Some((change, difference)) = failure {
+        println!(rt; "edit {edits}: {change:?} leaves a difference in {difference:?}")?;
         return Ok(ExitCode::FAILURE);
     }
-    println!(rt; "{} edits agree", outcome.edits)?;
-    println!(rt; "{} of them are refused", outcome.refused)?;
+    println!(rt; "{edits} edits agree")?;
+    println!(rt; "{refused} of them are refused")?;
     Ok(ExitCode::SUCCESS)
 }

@@ -33,7 +33,12 @@ fn reference_after(reference: &Reference, from: &Place, to: &Place) -> Option<Re
     let mut cols = (reference.first_col, reference.last_col);
     let mut rows = (reference.first_row, reference.last_row);
     if !matches!(reference.span, Span::Rows) {
-        cols = ends_after(cols, u32::from(from.1), u32::from(to.1), u32::from(LAST_COL))?;
+        cols = ends_after(
+            cols,
+            u32::from(from.1),
+            u32::from(to.1),
+            u32::from(LAST_COL),
+        )?;
     }
     if !matches!(reference.span, Span::Columns) {
         rows = ends_after(rows, from.2, to.2, LAST_ROW)?;

@@ -37,12 +37,20 @@ fn push_number(alloc: Global, text: &mut String, number: i64) -> Result<(), Allo
     text.push_str(digits.as_str())
 }
 
+fn push_letter(text: &mut String, number: u32) -> Result<(), AllocError> {
+    text.push(char::from(b'A' + (number % 26) as u8))
+}
+
+/// Appends the letters of a column, at most three.
 fn push_letters(text: &mut String, col: u32) -> Result<(), AllocError> {
     let before = col.saturating_sub(1);
-    if before >= 26 {
-        push_letters(text, before / 26)?;
+    if before >= 702 {
+        push_letter(text, (before - 702) / 676)?;
     }
-    text.push(char::from(b'A' + (before % 26) as u8))
+    if before >= 26 {
+        push_letter(text, before / 26 - 1)?;
+    }
+    push_letter(text, before)
 }
 
 fn push_col(text: &mut String, col: End) -> Result<(), AllocError> {
