@@ -1,9 +1,10 @@
 //! Edits that are drawn.
+use crate::book::Book;
 use crate::change::{BAD_NAMES, Change};
 use crate::contents::{held, name};
 use crate::drawn::{part, place, sheet, small_part};
 use crate::numbers::Numbers;
-use crate::places::{LAST_COL, LAST_ROW};
+use crate::places::{LAST_COL, LAST_ROW, Place};
 use crate::rows::RowEdit;
 use std::alloc::{AllocError, Global};
 
@@ -32,9 +33,22 @@ fn rows(numbers: &mut Numbers) -> RowEdit {
     rows
 }
 
+/// Mostly a cell that isn't empty.
+fn used_place(numbers: &mut Numbers, book: &Book) -> Place {
+    match book.cells.get(numbers.below(100) as usize) {
+        Some(cell) => cell.place,
+        None => place(numbers),
+    }
+}
+
 /// A copy, mostly within the sheet.
-fn copy(numbers: &mut Numbers) -> Change {
-    let part = part(numbers);
+fn copy(numbers: &mut Numbers, book: &Book) -> Change {
+    let from = used_place(numbers, book);
+    let part = if numbers.is_one_of(2) {
+        small_part(numbers, from)
+    } else {
+        part(numbers)
+    };
     let (other, mut col, mut row) = place(numbers);
     let (mut sheet, left, right, first, last) = part;
     if numbers.is_one_of(12) {
@@ -52,15 +66,16 @@ fn copy(numbers: &mut Numbers) -> Change {
     }
 }
 
-fn fill(numbers: &mut Numbers) -> Change {
-    let from = place(numbers);
-    let (other, _, _) = place(numbers);
-    let (_, left, first) = if numbers.is_one_of(2) {
-        from
-    } else {
-        place(numbers)
-    };
-    let sheet = if numbers.is_one_of(12) { other } else { from.0 };
+/// A fill, mostly within the sheet.
+fn fill(numbers: &mut Numbers, book: &Book) -> Change {
+    let from = used_place(numbers, book);
+    let (mut sheet, mut left, mut first) = from;
+    if numbers.is_one_of(2) {
+        (_, left, first) = place(numbers);
+    }
+    if numbers.is_one_of(12) {
+        (sheet, _, _) = place(numbers);
+    }
     Change::Fill {
         from,
         part: small_part(numbers, (sheet, left, first)),
@@ -99,33 +114,32 @@ fn named(numbers: &mut Numbers) -> &'static str {
     name(numbers)
 }
 
-/// The next edit of a book of so many cells.
+/// The next edit of a book.
 pub(crate) fn change(
     alloc: Global,
     numbers: &mut Numbers,
-    count: usize,
+    book: &Book,
 ) -> Result<Change, AllocError> {
-    if count > MANY {
+    if book.cells.len() > MANY {
         return Ok(removal(numbers));
     }
-    match numbers.below(48) {
-        0..=5 => Ok(fill(numbers)),
-        6..=10 => Ok(copy(numbers)),
-        11..=13 => Ok(Change::Clear {
+    match numbers.below(64) {
+        0..=9 => Ok(fill(numbers, book)),
+        10..=17 => Ok(copy(numbers, book)),
+        18 | 19 => Ok(Change::Clear {
             part: part(numbers),
         }),
-        14..=23 => Ok(Change::Rows {
+        20..=33 => Ok(Change::Rows {
             rows: rows(numbers),
         }),
-        24..=27 => Ok(Change::Name {
+        34..=38 => Ok(Change::Name {
             name: named(numbers),
             part: part(numbers),
         }),
-        28 | 29 => Ok(Change::Unname {
+        39 | 40 => Ok(Change::Unname {
             name: named(numbers),
         }),
-        30 => Ok(Change::Load),
-        31 => Ok(removal(numbers)),
+        41 => Ok(Change::Load),
         _ => {
             let place = place(numbers);
             let held = held(alloc, numbers, place.2)?;

@@ -109,7 +109,7 @@ pub(crate) fn walk(alloc: Global, edits: u32) -> Result<Outcome, AllocError> {
     let mut book = Book::new(alloc);
     let mut refused: u32 = 0;
     for edit in 1..=edits {
-        let change = change(alloc, &mut numbers, book.cells.len())?;
+        let change = change(alloc, &mut numbers, &book)?;
         let (cause, mut difference) = step(alloc, &mut workbook, &mut book, &change)?;
         if cause.is_some() {
             refused = refused.saturating_add(1);
