@@ -1,5 +1,5 @@
-//! A walk of random edits of a workbook. After each it compares what the workbook tells with a plain list of
-//! cells to which the test makes the same edit by code of its own.
+//! A walk of random edits of a workbook. After each it compares what the workbook tells with a
+//! plain list of cells to which it makes the same edit by code of its own.
 #![tactic(auto)]
 
 mod asked;

@@ -3,7 +3,7 @@ use crate::pieces::{End, Piece, Reference};
 use crate::places::{LAST_COL, LAST_ROW, Place};
 use calc_addr::Span;
 
-/// An end after it moved from one column or row to another as far as these lie apart, if it stays in the
+/// An end after it moved as far as a column or row lies from another one, if it stays in the
 /// sheet.
 fn end_after(end: End, from: u32, to: u32, last: u32) -> Option<End> {
     if end.marked {

@@ -99,8 +99,8 @@ fn push_reference(
     text.push_str("]")
 }
 
-/// The pieces in a row, each row that isn't marked as its distance from another one: 0 gives the text of
-/// the field, and the row of a formula its relative form within a column.
+/// The text of the pieces, with each row that isn't marked as its distance from another one: 0
+/// gives the text of the field, and the row of a formula its relative form within a column.
 pub(crate) fn printed(alloc: Global, pieces: &[Piece], home: u32) -> Result<String, AllocError> {
     let mut text = String::new(alloc);
     for piece in pieces {

@@ -17,7 +17,8 @@ const ROUND: u32 = 100;
 /// How many cells, columns and areas are compared after each edit.
 const QUESTIONS: u32 = 4;
 
-/// How many edits were made or refused, how many of them were refused, and what differs after the last.
+/// How many edits were made or refused, how many of them were refused, and what differs after the
+/// last.
 #[derive(Debug, Drop)]
 pub(crate) struct Outcome {
     pub(crate) edits: u32,
