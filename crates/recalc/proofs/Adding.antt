@@ -138,10 +138,12 @@ next_front run row q from to = alike (front run (row + 1) q) (front run row q ||
   where
     same_cells : (p q : Place) → p.sheet ≡ q.sheet → p.col ≡ q.col → p.row ≡ q.row → p ≡ q
     same_cells p q s c r = ap (λ s. record { sheet = s; col = p.col; row = p.row }) s ∙ ap (λ c. record { sheet = q.sheet; col = c; row = p.row }) c ∙ ap (λ r. record { sheet = q.sheet; col = q.col; row = r }) r
+
     at_row : (q : Place) → is_in q run ≡ true → q.row ≡ row → q ≡ row_of run row
     at_row q h e =
         let l = lies run q h in
         same_cells q (row_of run row) l.sheet l.col e
+
     there : front run (row + 1) q ≡ true → (front run row q || only (row_of run row) q) ≡ true
     there h =
         let parts = both_true (is_in q run) (nat_lt q.row (row + 1)) h in
@@ -150,9 +152,10 @@ next_front run row q from to = alike (front run (row + 1) q) (front run row q ||
         let same : q.row ≡ row = grind (arith, nat_tests) in
         ap (λ b. front run row q || b) (subst (λ (p : Place). only (row_of run row) p ≡ true) (sym (at_row q parts.0 same)) (same_cell (row_of run row))) ∙ or_true (front run row q))
         (cases_Bool (nat_lt q.row row))
+
     back : (front run row q || only (row_of run row) q) ≡ true → front run (row + 1) q ≡ true
     back h = ⊎_elim (λ (e : front run row q ≡ true). grind (arith, nat_tests))
-        (λ (e : only (row_of run row) q ≡ true). 
+        (λ (e : only (row_of run row) q ≡ true).
         let inside : is_in q run ≡ true = only_inside run row from to q e in
         let at : q.row ≡ row = ap (λ (p : Place). p.row) (only_is run row q e) in
         grind (arith, nat_tests))

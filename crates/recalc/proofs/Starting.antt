@@ -37,9 +37,11 @@ module _ (book : Book) (read : ReadAreas) (stale outside : List Place) (stored :
       and_true : (b : Bool) → (b && true) ≡ b
       and_true true = refl
       and_true false = refl
+
       and_false : (b : Bool) → (b && false) ≡ false
       and_false true = refl
       and_false false = refl
+
       no_circle : is_formula_cell book q ≡ false → is_circular book q ≡ false
       no_circle e = not_both (is_circular book q) (sym (right.known q (plainly q h)) ∙ ap (λ b. not b || is_some (results_of stored.results q)) e)
 
@@ -80,9 +82,11 @@ module _ (book : Book) (read : ReadAreas) (stale outside : List Place) (stored :
       or_false : (b : Bool) → (b || false) ≡ b
       or_false true = refl
       or_false false = refl
+
       none_of : (a b : Bool) → (a && (b && false)) ≡ false
       none_of true true = refl
       none_of true false = refl
       none_of false b = refl
+
       not_outside : (q : Place) → has stale q ≡ true → has outside q ≡ false
       not_outside q e = is q ∙ ap (λ b. has stored.circles q && (is_formula_cell book q && not b)) e ∙ none_of (has stored.circles q) (is_formula_cell book q)

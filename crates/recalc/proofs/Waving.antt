@@ -123,6 +123,7 @@ module _ (book : Book) (problem : Problem) (holds : HoldsReads problem.read book
           not_false : (b : Bool) → not b ≡ false → b ≡ true
           not_false true h = refl
           not_false false h = absurd (false≢true (sym h))
+
           circle : (q : Place) → stale q ≡ false → is_known book results q ≡ false → problem.circular q ≡ true
           circle q e unknown = not_false (problem.circular q) (sym (are.others q e) ∙ unknown)
 
@@ -161,9 +162,10 @@ module _ (book : Book) (problem : Problem) (holds : HoldsReads problem.read book
       stale_circles circular none q h = alike (has circular q) (is_circular book q) there back
         where
           there : has circular q ≡ true → is_circular book q ≡ true
-          there listed = 
+          there listed =
               let never = (((none.exact q).0 (has_held circular q listed)).never k) in
               ⊎_elim (λ (e : is_circular book q ≡ true). e) (λ (e : is_circular book q ≡ false). absurd (false≢true (sym never ∙ sym (are.stale q h) ∙ known_grounded q ∙ ap not e))) (cases_Bool (is_circular book q))
+
           back : is_circular book q ≡ true → has circular q ≡ true
           back circle = held_has circular q ((none.exact q).1 (record {
             stale = has_held problem.stale q h;

@@ -37,8 +37,12 @@ fn clear_runs(runs: &[Run], results: &mut FormulaResults) -> Result<(), NoMemory
 
 /// The run of a cell.
 fn run_of(cell: Cell) -> Run
-    ensures { result ≡ record { sheet = cell.sheet; col = cell.col;
-        first = cell.row; last = cell.row } }
+    ensures { result ≡ record {
+      sheet = cell.sheet;
+      col = cell.col;
+      first = cell.row;
+      last = cell.row;
+    } }
 {
     Run {
         sheet: cell.sheet,

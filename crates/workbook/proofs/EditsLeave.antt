@@ -130,4 +130,3 @@ edit_fresh (Ok x) before after edit was made refused no_memory dead fresh = stil
 edit_fresh (Err (fault.Refused cause)) before after edit was made refused no_memory dead fresh = subst IsFresh (sym (refused cause refl).kept) fresh
 edit_fresh (Err fault.NoMemory) before after edit was made refused no_memory dead fresh = no_memory_fresh before after edit (no_memory refl) fresh
 edit_fresh (Err fault.Dead) before after edit was made refused no_memory dead fresh = absurd (dead refl)
-

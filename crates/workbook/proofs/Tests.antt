@@ -40,6 +40,7 @@ stays_out old test cell q fails = sym (ap (λ b. old q || b) (without (eq_by_cmp
     without : (b t : Bool) → (b ≡ true → t ≡ false) → (b && t) ≡ false
     without true t h = h refl
     without false t h = refl
+
     or_false : (b : Bool) → (b || false) ≡ b
     or_false true = refl
     or_false false = refl

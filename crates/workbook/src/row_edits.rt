@@ -19,7 +19,9 @@ ghost use Rattle.workbook.specs.Workbook.{IsDead, IsRefused, Made};
 use crate::fault::EditFault;
 use crate::touched::Touched;
 use crate::workbook::Workbook;
-use calc_addr::{Area, Cell, LAST_COL, LAST_ROW, LAST_SHEET, NoMemory, delete_row_area, insert_row_area};
+use calc_addr::{
+    Area, Cell, LAST_COL, LAST_ROW, LAST_SHEET, NoMemory, delete_row_area, insert_row_area,
+};
 use calc_model::{Change, Dependents, Edit, EditCause};
 use cell_runs::CellRuns;
 use listener_hub::Hub;
