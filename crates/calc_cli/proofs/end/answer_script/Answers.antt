@@ -74,3 +74,6 @@ returns-clause-ends g c =
     let same = loaded_session c.new-session.result c.in-Ok.workbook c.args.book (length c.args.stock.items) c.new-session.ensures.workbook c.new-session.ensures.watchers c.new-session.ensures.stock c.in-Ok.ensures.book c.in-Ok.ensures.stale in
     subst (λ (s : Session). Ends NO_MEMORY (written c.args.sink.now) (written c.write_output.new.sink) (answered field_of s (lines_of c.args.script.now))) same
     (cut_short NO_MEMORY (session_of c.new-session.result) (lines_of c.args.script.now) (written c.args.sink.now) (written c.write_output.new.sink) (λ calm. calm.memory refl) (λ e. absurd (omega (arith, e))) c.in-Err-NoMemory.ensures.err)
+
+pub returns-in-Err-Failed-clause-faults : goal.returns-in-Err-Failed-clause-faults
+returns-in-Err-Failed-clause-faults g c = record { later = c.write_output.ensures.later; cause = λ _. c.in-Err-Failed.ensures.cause (search rules) }
