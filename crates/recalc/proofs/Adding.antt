@@ -1,8 +1,7 @@
 -- Results that come to cells, and what they leave as it was.
-use Rattle.std.proofs.Common.{◌≡◌, ◌≤◌, ◌<◌, ℕ, zero, suc, ◌+◌, nat_le, nat_lt, arith, List, [], ◌∷◌, take, length, get_or, Bool, true, false, not, ◌||◌, ◌&&◌, Option, Some, None, cond, Result, Ok, Err, refl, sym, ap, subst, ◌∙◌, ⊎_elim}
-use Rattle.std.specs.Prelude.{OnOk, OnErr, is_some}
+use Rattle.std.proofs.Common.{◌≡◌, ◌≤◌, ◌<◌, ℕ, zero, suc, ◌+◌, nat_lt, arith, List, [], ◌∷◌, take, length, get_or, Bool, true, false, not, ◌||◌, ◌&&◌, Some, cond, refl, sym, ap, subst, ◌∙◌, ⊎_elim}
+use Rattle.std.specs.Prelude.{is_some}
 use Rattle.std.specs.Ordering.{eq_by_cmp}
-use Rattle.std.specs.Prelude.{◌==◌}
 use Rattle.std.proofs.lemmas.Bool.{cases_Bool, false≢true, or_cases}
 use Rattle.std.proofs.lemmas.Bool.Decides.{nat_tests}
 use Rattle.calc_addr.specs.Places.{Place, Rows, place_cmp}
@@ -18,7 +17,6 @@ use Rattle.calc_model.specs.Books.{Book, area_named, content_at, is_formula}
 use Rattle.calc_model.specs.Eval.{eval, top}
 use Rattle.calc_model.specs.Reads.{reads}
 use Rattle.calc_model.specs.Results.{IsSound, Results, Sets, is_known, is_ready, shown_by}
-use Rattle.calc_model.specs.Stale.{is_formula_cell}
 use Rattle.calc_model.specs.Touched.{CellSet}
 use Rattle.calc_model.proofs.Knowing.{sound_with}
 use Rattle.calc_model.proofs.Places.{same_places}
@@ -35,9 +33,6 @@ alike false false to from = refl
 -- the cell alone
 abbrev pub only : Place → CellSet
 only cell = eq_by_cmp place_cmp cell
-
-pub sets_others : (old new : Results) (cell : Place) (value : Value) → Sets old new cell value → KeepsOthers (only cell) old new
-sets_others old new cell value sets q apart = sets q ∙ ap (λ b. cond b (Some value) (old q)) apart
 
 module _ (book : Book) where
   known_with : (new : Results) (q : Place) (value : Value) → new q ≡ Some value → is_known book new q ≡ true

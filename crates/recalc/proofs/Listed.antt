@@ -1,18 +1,18 @@
 -- Lists of cells as runs, and as tests.
-use Rattle.std.proofs.Common.{◌≡◌, ◌<◌, ℕ, zero, suc, ◌+◌, Bool, true, false, not, ◌||◌, ◌&&◌, List, [], ◌∷◌, ◌++◌, take, length, get_or, slice_get, Option, Some, None, refl, sym, ap, subst, ◌∙◌, ⊎_elim, arith}
-use Rattle.std.specs.Prelude.{is_some, IfSome, IfNone, Result, Ok, Err, IfOk}
-use Rattle.std.specs.List.{AllPairs, Contains, list_any}
+use Rattle.std.proofs.Common.{◌≡◌, ◌<◌, ℕ, zero, suc, ◌+◌, Bool, true, false, not, ◌||◌, ◌&&◌, List, [], ◌∷◌, ◌++◌, take, length, get_or, slice_get, Option, Some, None, refl, sym, ap, subst, ◌∙◌, arith}
+use Rattle.std.specs.Prelude.{is_some, IfSome, IfNone}
+use Rattle.std.specs.List.{Contains}
 use Rattle.std.specs.Ordering.{eq_by_cmp}
-use Rattle.std.proofs.lemmas.Bool.{cases_Bool, false≢true, or_cases}
+use Rattle.std.proofs.lemmas.Bool.{false≢true}
 use Rattle.std.proofs.lemmas.Bool.Decides.{nat_tests}
 use Rattle.std.proofs.lemmas.List.Folds.{list_any-append, list_any_more}
 use Rattle.std.proofs.lemmas.Option.{get_or_from_slice_get, slice_get_within}
-use Rattle.calc_addr.specs.Places.{IsBefore, Place, Rows, place_cmp}
+use Rattle.calc_addr.specs.Places.{Place, Rows, place_cmp}
 use Rattle.calc_model.specs.Books.{Book}
 use Rattle.calc_model.specs.Stale.{is_formula_cell}
 use Rattle.calc_model.specs.Touched.{CellSet}
 use Rattle.calc_model.proofs.Places.{same_places}
-use Rattle.calc_model.proofs.Reached.{or_true, same_cell}
+use Rattle.calc_model.proofs.Reached.{same_cell}
 use Rattle.cell_runs.specs.CellLists.{all_cells}
 use Rattle.run_unions.specs.Unions.{AreUnion, is_in}
 use Rattle.dirty_spread.specs.Marking.{is_in_any}

@@ -1,18 +1,16 @@
 -- From the results before a recalculation to those before its first wave, and from those in the end to all.
-use Rattle.std.proofs.Common.{◌≡◌, Bool, true, false, not, ◌||◌, ◌&&◌, List, Option, Some, None, cond, refl, sym, ap, subst, ◌∙◌, ⊎_elim}
+use Rattle.std.proofs.Common.{◌≡◌, Bool, true, false, not, ◌||◌, ◌&&◌, List, None, refl, sym, ap, ◌∙◌, ⊎_elim}
 use Rattle.std.specs.Prelude.{if◌then◌else◌, is_some}
 use Rattle.std.proofs.lemmas.Bool.{cases_Bool, false≢true}
 use Rattle.calc_addr.specs.Places.{Place}
-use Rattle.calc_model.specs.Books.{Book, content_at, is_formula}
+use Rattle.calc_model.specs.Books.{Book, content_at}
 use Rattle.calc_model.specs.Grounded.{is_circular}
 use Rattle.calc_model.specs.Listeners.{ReadAreas}
-use Rattle.calc_model.specs.Results.{IsSound, Results, ShowsAll, is_known, shown_by, shown_content}
+use Rattle.calc_model.specs.Results.{Results, ShowsAll, is_known, shown_content}
 use Rattle.calc_model.specs.Stale.{is_formula_cell}
-use Rattle.calc_model.specs.Val.{val}
-use Rattle.calc_model.proofs.Areas.{both_true}
-use Rattle.dirty_spread.specs.Waves.{Problem, has, problem_of}
+use Rattle.dirty_spread.specs.Waves.{has, problem_of}
 use Rattle.formula_results.specs.Results.{results_of}
-use Rattle.recalc.specs.Evaluating.{AreBefore, KeepsOthers}
+use Rattle.recalc.specs.Evaluating.{AreBefore}
 use Rattle.recalc.specs.Recalculation.{AreRight, Stored, beside, kept}
 use Rattle.recalc.proofs.Adding.{known_kept}
 

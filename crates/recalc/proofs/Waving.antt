@@ -1,21 +1,20 @@
 -- Results before each wave, and in the end.
-use Rattle.std.proofs.Common.{◌≡◌, ◌≤◌, ◌<◌, ◌⊎◌, ℕ, zero, suc, ◌+◌, Bool, true, false, not, ◌||◌, ◌&&◌, List, [], length, get_or, Option, Some, None, cond, refl, sym, ap, subst, ◌∙◌, ⊎_elim, inl, inr, arith}
+use Rattle.std.proofs.Common.{◌≡◌, ◌≤◌, ℕ, zero, suc, ◌+◌, Bool, true, false, not, ◌||◌, ◌&&◌, List, [], length, Some, None, refl, sym, ap, subst, ◌∙◌, ⊎_elim, arith}
 use Rattle.std.specs.Prelude.{if◌then◌else◌, slice_index_or, is_some}
 use Rattle.std.specs.List.{Contains}
 use Rattle.std.proofs.lemmas.Bool.{cases_Bool, false≢true}
 use Rattle.std.proofs.lemmas.List.{get_or_past}
-use Rattle.calc_addr.specs.Places.{Place, Rectangle}
-use Rattle.calc_model.specs.declared.value.Value.{Value}
-use Rattle.calc_model.specs.Books.{Book, content_at, formula_count, is_formula}
+use Rattle.calc_addr.specs.Places.{Place}
+use Rattle.calc_model.specs.Books.{Book, formula_count}
 use Rattle.calc_model.specs.Grounded.{all_cells, is_circular, is_grounded}
-use Rattle.calc_model.specs.Listeners.{ReadAreas, listed}
+use Rattle.calc_model.specs.Listeners.{listed}
 use Rattle.calc_model.specs.Reads.{reads}
-use Rattle.calc_model.specs.Results.{IsFinished, IsSound, Results, ShowsAll, is_known, is_ready, shown_by}
+use Rattle.calc_model.specs.Results.{IsFinished, Results, ShowsAll, is_known, is_ready}
 use Rattle.calc_model.specs.Stale.{is_formula_cell}
 use Rattle.calc_model.specs.Touched.{CellSet}
 use Rattle.calc_model.proofs.Knowing.{ready_grounded, shows_all}
 use Rattle.calc_model.proofs.Rounds.{all_cells_more, not_circular}
-use Rattle.formula_listeners.specs.Held.{HoldsReads, areas_in}
+use Rattle.formula_listeners.specs.Held.{HoldsReads}
 use Rattle.dirty_spread.specs.Waves.{AreAll, AreWaves, IsInNone, IsInWave, Problem, has, is_done}
 use Rattle.dirty_spread.proofs.Beside.{has_held, held_has}
 use Rattle.recalc.specs.Evaluating.{AreBefore, AreEvaluated, AreReady, KeepsOthers}
@@ -28,10 +27,6 @@ no_item q (k, below, is) = absurd (omega arith)
 branch : (b c d e : Bool) → (b ≡ true → c ≡ true → e ≡ true) → (b ≡ false → d ≡ true → e ≡ true) → (if b then c else d) ≡ true → e ≡ true
 branch true c d e one two h = one refl h
 branch false c d e one two h = two refl h
-
-branch_so : (b c d e : Bool) → (b ≡ true → e ≡ true → c ≡ true) → (b ≡ false → e ≡ true → d ≡ true) → e ≡ true → (if b then c else d) ≡ true
-branch_so true c d e one two h = one refl h
-branch_so false c d e one two h = two refl h
 
 module _ (book : Book) (problem : Problem) (holds : HoldsReads problem.read book) (formulas : (q : Place) → has problem.stale q ≡ true → is_formula_cell book q ≡ true) where
   abbrev stale : CellSet

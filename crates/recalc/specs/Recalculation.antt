@@ -1,5 +1,5 @@
 -- Results that are right for some cells of a book, with the list of the cells among them that reach a circle.
-use Rattle.std.specs.Prelude.{◌≡◌, true, false, not, ◌&&◌, List, Option}
+use Rattle.std.specs.Prelude.{◌≡◌, true, not, ◌&&◌, List, Option}
 use Rattle.calc_addr.specs.Places.{Place}
 use Rattle.calc_model.specs.Books.{Book}
 use Rattle.calc_model.specs.Grounded.{is_circular}

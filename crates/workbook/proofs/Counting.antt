@@ -1,9 +1,9 @@
 -- How many formulas are stale: as many as are listed.
-use Rattle.std.proofs.Common.{◌≡◌, ◌<◌, ◌≤◌, ℕ, zero, suc, ◌+◌, Bool, T, true, false, ◌||◌, ◌&&◌, List, [], ◌∷◌, length, map, get_or, Option, Some, None, cond, unwrap_or, refl, sym, ap, subst, ◌∙◌, ⊎_elim, arith}
+use Rattle.std.proofs.Common.{◌≡◌, ◌<◌, ◌≤◌, ℕ, suc, Bool, T, true, false, ◌||◌, List, [], ◌∷◌, length, map, get_or, Option, Some, None, cond, unwrap_or, refl, sym, ap, subst, ◌∙◌, arith}
 use Rattle.std.specs.List.{AllPairs, filter}
 use Rattle.std.specs.Ordering.{eq_by_cmp, is_eq, is_lt}
 use Rattle.std.specs.FinMap.Entries.{below_all, find, find-where_key, is_sorted, is_sorted-where_key, same_entries, where_key}
-use Rattle.std.proofs.lemmas.Bool.{and_from, cases_Bool, false≢true}
+use Rattle.std.proofs.lemmas.Bool.{and_from, false≢true}
 use Rattle.std.proofs.lemmas.List.{length-map}
 use Rattle.calc_addr.specs.Places.{IsBefore, Place, place_cmp}
 use Rattle.calc_model.specs.declared.content.Content.{Content}

@@ -1,5 +1,5 @@
 -- An edit leaves formulas that don't become stale with the value that they had.
-use Rattle.std.proofs.Common.{◌≡◌, ◌+◌, Bool, true, false, not, ◌||◌, ◌&&◌, [], Option, unwrap_or, Some, refl, sym, ap, subst, ◌∙◌, ⊎_elim}
+use Rattle.std.proofs.Common.{◌≡◌, ◌+◌, Bool, true, false, not, ◌||◌, ◌&&◌, [], Option, unwrap_or, Some, refl, sym, ap, ◌∙◌, ⊎_elim}
 use Rattle.std.specs.Prelude.{is_some}
 use Rattle.std.proofs.lemmas.Bool.{cases_Bool, false≢true}
 use Rattle.std.specs.Option.{option_map_or}
@@ -25,7 +25,7 @@ use Rattle.calc_model.proofs.Rounds.{grounded_constant}
 use Rattle.dirty_spread.specs.Waves.{has}
 use Rattle.formula_results.specs.Results.{results_of}
 use Rattle.recalc.specs.Recalculation.{Stored}
-use Rattle.workbook.specs.Workbook.{IsFresh, Made, State, current, mended, stale_of}
+use Rattle.workbook.specs.Workbook.{IsFresh, Made, State, current, stale_of}
 use Rattle.workbook.proofs.Unreached.{apart, circles, clean, clean_of, reads_clean, same_shown}
 
 -- what an edit leaves in the cells that it doesn't touch: contents, what they read and mean, and their place
@@ -147,8 +147,3 @@ fresh_unwritten state none = record {
   where
     no_formula : (q : Place) → is_formula_cell state.book q ≡ false
     no_formula q = ap (λ cells. is_formula (unwrap_or (find place_cmp q cells) Empty)) none
-
--- the results say nothing of the hub
-pub fresh_mended : (before after : State) → after ≡ mended before → IsFresh before → IsFresh after
-unfolding stale_of
-fresh_mended before after is fresh = subst IsFresh (sym is) fresh

@@ -1,9 +1,9 @@
 -- What a recalculation takes and leaves.
-use Rattle.std.proofs.Common.{◌≡◌, ℕ, Bool, true, false, not, ◌&&◌, List, length, Result, Ok, Err, refl, sym, ap, subst, ◌∙◌}
-use Rattle.std.specs.Prelude.{IfOk, OnErr, OnOk}
+use Rattle.std.proofs.Common.{◌≡◌, Bool, true, not, ◌&&◌, List, Result, Ok, Err, refl, ap, subst, ◌∙◌}
+use Rattle.std.specs.Prelude.{OnErr}
 use Rattle.calc_addr.specs.Places.{Place}
 use Rattle.calc_model.specs.Books.{Book}
-use Rattle.calc_model.specs.Stale.{count_in, is_formula_cell, reaches}
+use Rattle.calc_model.specs.Stale.{is_formula_cell, reaches}
 use Rattle.calc_model.specs.Touched.{CellSet}
 use Rattle.calc_model.specs.Val.{val}
 use Rattle.calc_model.proofs.Areas.{both_true}

@@ -1,14 +1,13 @@
 -- What inserted and deleted rows leave: cells that they don't touch stay where they are and hold what they held.
 use Rattle.std.proofs.Common.{◌≡◌, ◌<◌, ◌+◌, ◌-◌, nat_le, ℕ, Bool, true, false, ◌&&◌, ◌||◌, not, cond, List, [], ◌∷◌, map, Option, Some, None, unwrap_or, refl, sym, ap, subst, ◌∙◌, ◌⊎◌, inl, inr, arith}
 use Rattle.std.specs.Prelude.{◌==◌, Err, Ok, OnOk, Result}
-use Rattle.std.specs.List.{AllByRecursion, filter, list_all, list_any}
+use Rattle.std.specs.List.{filter, list_all, list_any}
 use Rattle.std.specs.Option.{option_map}
 use Rattle.std.specs.Ordering.{eq_by_cmp, is_eq, nat_cmp, ordering_then}
 use Rattle.std.specs.declared.cmp.Ordering.{Ordering}
 use Rattle.std.specs.declared.cmp.Ordering.TheVariants.{Less, Equal, Greater}
 use Rattle.std.specs.FinMap.Entries.{find}
 use Rattle.std.proofs.lemmas.Bool.Decides.{nat_tests}
-use Rattle.std.proofs.lemmas.List.Elements.{recursion_from_All}
 use Rattle.std.proofs.lemmas.Bool.{false_from_ne_true}
 use Rattle.calc_addr.specs.Places.{Place, Rectangle, covers, place_cmp}
 use Rattle.calc_addr.specs.Shifts.{is_deleted, row_after_deletion, row_after_insertion}
@@ -28,7 +27,6 @@ use Rattle.calc_model.proofs.Areas.{both_true}
 use Rattle.calc_model.proofs.EntriesMoved.{all-filtered}
 use Rattle.calc_model.proofs.NamedReads.{deleted_reads, inserted_reads}
 use Rattle.calc_model.proofs.Places.{same_places}
-use Rattle.calc_model.proofs.Reached.{either, or_first, or_second, same_cell}
 use Rattle.calc_model.proofs.RowsKept.{home_is}
 use Rattle.calc_model.proofs.ShiftedReads.{deletion_stays, insertion_stays}
 use Rattle.std.specs.BTreeMap.{is_at}

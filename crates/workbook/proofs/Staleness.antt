@@ -1,6 +1,5 @@
 -- Which formulas are stale after an edit, by what was touched since the last recalculation: those that reach any of it.
-use Rattle.std.proofs.Common.{◌≡◌, Bool, true, false, ◌||◌, ◌&&◌, cond, List, [], ◌∷◌, length, refl, sym, ap, subst, ◌∙◌, ◌⊎◌, inl, inr, Some}
-use Rattle.std.specs.List.{filter}
+use Rattle.std.proofs.Common.{◌≡◌, Bool, true, false, ◌||◌, ◌&&◌, [], refl, sym, ap, subst, ◌∙◌, ◌⊎◌, inl, inr, Some}
 use Rattle.std.specs.FinMap.Entries.{find}
 use Rattle.std.specs.Ordering.{nat_cmp}
 use Rattle.std.specs.Cmp.Lexicographic.{slice_cmp}
@@ -9,10 +8,9 @@ use Rattle.std.specs.Ordering.{eq_by_cmp}
 use Rattle.std.proofs.lemmas.Bool.{false_from_ne_true, and_from, and_parts}
 use Rattle.std.specs.List.{list_any}
 use Rattle.calc_addr.specs.Places.{Place, covers, place_cmp}
-use Rattle.calc_model.specs.declared.content.Content.{Content}
 use Rattle.calc_model.specs.Books.{Book, area_named, content_at, entry_named, is_formula, looked_up}
 use Rattle.calc_model.specs.Reads.{content_areas, reads}
-use Rattle.calc_model.specs.Stale.{Reaches, any_cell, count_in, is_formula_cell, reaches}
+use Rattle.calc_model.specs.Stale.{Reaches, any_cell, is_formula_cell, reaches}
 use Rattle.std.specs.Option.{option_map_or}
 use Rattle.calc_model.specs.declared.edit.Edit.{Edit}
 use Rattle.calc_model.specs.Touched.{CellSet, moved, origin}
@@ -163,16 +161,6 @@ unfolding stale_of
 none_stale state none unnamed q =
     ap (λ b. is_formula_cell state.book q && b) (reaches_none state.book (is_touched state.book state.touched) (λ p. ap (λ b. b || uses_any state.touched.names (content_at state.book p)) (none p) ∙ ap (λ names. uses_any names (content_at state.book p)) unnamed ∙ uses_none (content_at state.book p)) q)
     ∙ and_false (is_formula_cell state.book q)
-
--- tests that agree count alike
-pub filter_same : {X : Type 0} (f g : X → Bool) → ((x : X) → f x ≡ g x) → (xs : List X) → filter f xs ≡ filter g xs
-filter_same f g same [] = refl
-filter_same f g same (x ∷ xs) = ap (λ b. cond b (x ∷ filter f xs) (filter f xs)) (same x) ∙ ap (λ rest. cond (g x) (x ∷ rest) rest) (filter_same f g same xs)
-
--- how many cells are found, where exactly the stale ones are
-pub found_stale : (state : State) (found : List Place) → ((q : Place) → contains_cell found q ≡ (is_formula_cell state.book q && reaches state.book (is_touched state.book state.touched) q)) → count_in state.book (contains_cell found) ≡ count_in state.book (stale_of state)
-unfolding stale_of
-found_stale state found same = ap (λ (es : List (Place × Content)). length es) (filter_same (λ entry. contains_cell found entry.0) (λ entry. stale_of state entry.0) (λ entry. same entry.0) state.book.cells)
 
 -- with all touched, each cell reaches a touched one
 pub all_reach : (book : Book) (parts : Parts) → parts.all ≡ true → (q : Place) → (is_formula_cell book q && reaches book (is_touched book parts) q) ≡ is_formula_cell book q

@@ -1,8 +1,9 @@
 -- Tests of cells, and lists of cells that are gone over.
-use Rattle.std.proofs.Common.{◌≡◌, ◌<◌, ◌≤◌, ℕ, zero, suc, ◌+◌, Bool, true, false, ◌||◌, ◌&&◌, List, [], ◌∷◌, ◌++◌, take, length, get_or, slice_get, Option, Some, None, arith, refl, sym, ap, subst, ◌∙◌}
+use Rattle.std.proofs.Common.{◌≡◌, ◌<◌, ◌≤◌, ℕ, zero, suc, ◌+◌, Bool, true, false, ◌||◌, ◌&&◌, List, [], ◌∷◌, ◌++◌, take, length, get_or, slice_get, Option, Some, arith, refl, sym, ap, subst, ◌∙◌}
 use Rattle.std.specs.List.{Contains, list_any}
 use Rattle.std.specs.Prelude.{◌↔◌}
 use Rattle.std.specs.Ordering.{eq_by_cmp}
+use Rattle.std.proofs.lemmas.Bool.{false≢true}
 use Rattle.std.proofs.lemmas.List.{take_all}
 use Rattle.std.proofs.lemmas.List.Folds.{list_any-append, list_any_more}
 use Rattle.calc_addr.specs.Places.{Place, Rectangle, covers, place_cmp}
@@ -50,13 +51,6 @@ abbrev pub Walked : List Place → ℕ → CellSet → CellSet → CellSet → T
 Walked cells i test old now = (q : Place) → now q ≡ (old q || (has (take i cells) q && test q))
 
 module _ (cells : List Place) (test old : CellSet) where
-  pub none_walked : Walked cells 0 test old old
-  none_walked q = sym (or_false (old q))
-    where
-      or_false : (b : Bool) → (b || false) ≡ b
-      or_false true = refl
-      or_false false = refl
-
   step : (a b c t : Bool) → ((a || (b && t)) || (c && t)) ≡ (a || ((b || c) && t))
   step true b c t = refl
   step false true true true = refl
@@ -98,3 +92,12 @@ pub no_item : (cells : List Place) (i : ℕ) {o : Option Place} → slice_get ce
 no_item [] i at none within = absurd (omega (arith, within))
 no_item (x ∷ xs) zero at none within = none x (sym at)
 no_item (x ∷ xs) (suc i) at none within = no_item xs i at none (omega (arith, within))
+
+-- a cell that is there already joins none
+pub already : (now test : CellSet) (cell q : Place) → now cell ≡ true → now q ≡ (now q || (eq_by_cmp place_cmp q cell && test q))
+already now test cell q there = kept (now q) (eq_by_cmp place_cmp q cell) (test q) (λ h. subst (λ z. now z ≡ true) (sym (same_places q cell h)) there)
+  where
+    kept : (n e t : Bool) → (e ≡ true → n ≡ true) → n ≡ (n || (e && t))
+    kept true e t h = refl
+    kept false true t h = absurd (false≢true (h refl))
+    kept false false t h = refl

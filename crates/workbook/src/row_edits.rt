@@ -153,18 +153,28 @@ impl Workbook {
         };
         self.touched.add_area(area)?;
         let formulas = self.book.parts().formula_cells(alloc)?;
-        touch_readers(alloc, &mut self.touched, &formulas, self.book.hub(), change)
+        touch_readers(
+            alloc,
+            &mut self.touched,
+            area,
+            &formulas,
+            self.book.hub(),
+            change,
+        )
     }
 }
 
-/// Touches those of some formulas that read an area that changes. It asks the hub what each of them reads.
+/// Touches those of some formulas that read an area that changes. It asks the hub what each of them reads,
+/// but for those in an area that is touched.
 fn touch_readers(
     alloc: Global,
     touched: &mut Touched,
+    inside: Area,
     formulas: &CellRuns,
     hub: &Hub,
     change: Change,
 ) -> Result<(), NoMemory>
+    requires inside { (q : Place) → covers inside q ≡ true → lies_in touched.old q ≡ true }
     requires change { IsChange change }
     requires ready { hub.now.spent ≡ false }
     ensures cells { OnOk result ((q : Place) → lies_in touched.new q ≡ (lies_in touched.old q
@@ -174,7 +184,9 @@ fn touch_readers(
     let mut areas = Vec::new(alloc);
     for place in 0..formulas.len() {
         if let Some(cell) = formulas.cell(place) {
-            touch_reader(touched, cell, hub, &mut areas, change)?;
+            if !inside.covers(cell) {
+                touch_reader(touched, cell, hub, &mut areas, change)?;
+            }
         }
     }
     Ok(())

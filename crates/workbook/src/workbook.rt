@@ -278,6 +278,16 @@ impl Workbook {
         EditFault::NoMemory
     }
 
+    /// How many formulas are stale. It asks the hub which ones, as a recalculation does.
+    pub fn stale_count(&self, alloc: Global) -> Result<usize, NoMemory>
+        requires { self.now.spent ≡ false }
+        ensures { IfOk result (λ count. count ≡ count_in self.now.book (stale_of self.now)) }
+    {
+        self.book.parts().are_book();
+        let stale = stale_cells(alloc, &self.book, &self.touched)?;
+        Ok(stale.len())
+    }
+
     /// Calculates the stale formulas again, over the results of the others. None is stale afterwards, and
     /// every cell has its value. Each stale formula is evaluated once, after those that it reads. Where
     /// memory is refused, the same formulas are stale, and the others keep their results.

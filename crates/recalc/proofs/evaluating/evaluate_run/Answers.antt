@@ -1,9 +1,7 @@
-use Rattle.std.proofs.Common.{◌≡◌, ◌≤◌, ◌<◌, ◌+◌, ◌||◌, true, sym, ap, subst, ◌∙◌, arith}
+use Rattle.std.proofs.Common.{◌≡◌, ◌+◌, ◌||◌, true, sym, ap, subst, ◌∙◌, arith}
 use Rattle.calc_addr.specs.Places.{Place, Rows}
-use Rattle.calc_model.specs.Touched.{CellSet}
 use Rattle.formula_results.specs.Results.{results_of}
 use Rattle.run_unions.specs.Unions.{is_in}
-use Rattle.recalc.specs.Evaluating.{AreEvaluated, AreReady, KeepsOthers}
 use Rattle.recalc.proofs.Adding.{front, next_front, on_way_more, only, only_inside, ready_on_way, row_of}
 use Rattle.recalc.proofs.evaluating.evaluate_run.Goals as goal
 

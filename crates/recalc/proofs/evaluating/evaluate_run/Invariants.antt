@@ -1,4 +1,3 @@
-use Rattle.std.proofs.Common.{◌≤◌, ◌+◌}
 use Rattle.formula_results.specs.Results.{results_of}
 use Rattle.recalc.proofs.Adding.{IsOnWay, front}
 use Rattle.recalc.proofs.evaluating.evaluate_run.Given as goal

@@ -1,11 +1,10 @@
-use Rattle.std.proofs.Common.{◌≡◌, ◌+◌, ◌||◌, true, false, take, sym, ap, subst, ◌∙◌}
+use Rattle.std.proofs.Common.{◌+◌, ◌||◌, take, sym, ap, ◌∙◌}
 use Rattle.std.proofs.lemmas.List.Folds.{list_any_more}
-use Rattle.calc_addr.specs.Places.{Place, Rows}
+use Rattle.calc_addr.specs.Places.{Rows}
 use Rattle.formula_results.specs.Results.{results_of}
 use Rattle.run_unions.specs.Unions.{is_in}
 use Rattle.dirty_spread.specs.Marking.{is_in_any}
-use Rattle.recalc.specs.Evaluating.{AreEvaluated, AreReady, KeepsOthers}
-use Rattle.recalc.proofs.Adding.{IsOnWay, item_in_any, kept_then, none_in_part, on_way_as, on_way_more, ready_on_way}
+use Rattle.recalc.proofs.Adding.{item_in_any, kept_then, none_in_part, on_way_more, ready_on_way}
 use Rattle.recalc.proofs.evaluating.evaluate_runs.Goals as goal
 
 pub evaluate_run-requires-clause-ready : goal.evaluate_run-requires-clause-ready

@@ -1,8 +1,6 @@
-use Rattle.std.proofs.Common.{◌≡◌, take, None, ap, ◌∙◌, false}
+use Rattle.std.proofs.Common.{None, ap, ◌∙◌}
 use Rattle.std.specs.Prelude.{if◌then◌else◌}
 use Rattle.formula_results.specs.Results.{results_of}
-use Rattle.run_unions.specs.Unions.{is_in}
-use Rattle.dirty_spread.specs.Marking.{is_in_any}
 use Rattle.recalc.proofs.Adding.{none_in_part}
 use Rattle.recalc.proofs.recalculating.clear_runs.Goals as goal
 

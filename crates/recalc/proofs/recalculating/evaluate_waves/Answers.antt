@@ -1,14 +1,14 @@
-use Rattle.std.proofs.Common.{◌≡◌, ◌+◌, ◌≤◌, suc, true, false, List, [], sym, ap, subst, ◌∙◌, length, arith}
+use Rattle.std.proofs.Common.{◌≡◌, ◌+◌, ◌≤◌, suc, [], sym, ap, subst, ◌∙◌, length, arith}
 use Rattle.std.specs.Prelude.{slice_index_or}
-use Rattle.calc_addr.specs.Places.{Place, Rows}
+use Rattle.calc_addr.specs.Places.{Place}
 use Rattle.cell_runs.specs.CellLists.{all_cells}
 use Rattle.listener_hub.specs.Hubs.{areas_read}
 use Rattle.formula_results.specs.Results.{results_of}
 use Rattle.dirty_spread.specs.Marking.{is_in_any}
-use Rattle.dirty_spread.specs.Waves.{AreAll, AreWaves, IsInNone, Problem, has, problem_of}
-use Rattle.recalc.specs.Evaluating.{AreBefore, AreEvaluated, AreReady, KeepsOthers}
+use Rattle.dirty_spread.specs.Waves.{AreWaves, Problem, has, problem_of}
+use Rattle.recalc.specs.Evaluating.{AreBefore, KeepsOthers}
 use Rattle.recalc.proofs.Listed.{runs_have}
-use Rattle.recalc.proofs.Adding.{as_evaluated, as_ready, kept_then}
+use Rattle.recalc.proofs.Adding.{as_evaluated, as_ready}
 use Rattle.recalc.proofs.Waving.{all_circles, known_grounded, next_wave, shown, wave_only_stale, wave_ready}
 use Rattle.recalc.proofs.recalculating.evaluate_waves.Goals as goal
 

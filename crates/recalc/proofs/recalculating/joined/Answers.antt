@@ -1,9 +1,7 @@
-use Rattle.std.proofs.Common.{◌≡◌, ◌||◌, ◌++◌, ap, sym, ◌∙◌, []}
+use Rattle.std.proofs.Common.{◌≡◌, ◌||◌, ◌++◌, ap, sym, ◌∙◌}
 use Rattle.std.proofs.lemmas.List.Folds.{list_any-append}
 use Rattle.std.proofs.lemmas.Result.{IfOk-weaker}
-use Rattle.std.specs.Prelude.{IfOk}
-use Rattle.calc_addr.specs.Places.{Place, Rows}
-use Rattle.cell_runs.specs.CellLists.{all_cells}
+use Rattle.calc_addr.specs.Places.{Place}
 use Rattle.run_unions.specs.Unions.{AreUnion, is_in}
 use Rattle.dirty_spread.specs.Marking.{is_in_any}
 use Rattle.dirty_spread.specs.Waves.{has}

@@ -1,4 +1,4 @@
-use Rattle.std.proofs.Common.{◌≡◌, ◌<◌, length, get_or, slice_get, Some, sym, ap, ◌∙◌, ◌++◌, ◌∷◌, [], Vec, Global, arith}
+use Rattle.std.proofs.Common.{◌≡◌, slice_get, Some, sym, ap, ◌∙◌, ◌++◌, ◌∷◌, [], Vec, Global, arith}
 use Rattle.std.proofs.lemmas.Option.{get_or_from_slice_get, slice_get_within}
 use Rattle.calc_addr.specs.Places.{Place, Rows}
 use Rattle.calc_addr.specs.declared.cell.Run.{Run}

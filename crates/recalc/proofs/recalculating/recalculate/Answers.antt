@@ -1,13 +1,10 @@
-use Rattle.std.proofs.Common.{◌≡◌, ◌||◌, true, false, not, List, None, sym, ap, subst, ◌∙◌}
-use Rattle.std.specs.Prelude.{if◌then◌else◌, IfOk}
+use Rattle.std.proofs.Common.{◌≡◌, ◌||◌, true, None, sym, ap, ◌∙◌}
+use Rattle.std.specs.Prelude.{if◌then◌else◌}
 use Rattle.std.proofs.lemmas.Result.{IfOk-weaker}
 use Rattle.calc_addr.specs.Places.{Place}
-use Rattle.cell_runs.specs.CellLists.{all_cells}
 use Rattle.listener_hub.specs.Hubs.{areas_read}
 use Rattle.formula_results.specs.Results.{results_of}
-use Rattle.dirty_spread.specs.Marking.{is_in_any}
 use Rattle.dirty_spread.specs.Waves.{has}
-use Rattle.recalc.specs.Evaluating.{KeepsOthers}
 use Rattle.recalc.specs.Recalculation.{AreRight, Stored, kept}
 use Rattle.recalc.proofs.Listed.{runs_have, union_has}
 use Rattle.recalc.proofs.Starting.{all_right, before_first, circle_beside}

@@ -1,6 +1,6 @@
-use Rattle.std.proofs.Common.{◌≡◌, ◌||◌, ◌++◌, [], List, Bool, true, false, refl, sym, ap, ◌∙◌}
+use Rattle.std.proofs.Common.{◌≡◌, ◌||◌, ◌++◌, List, sym, ap, ◌∙◌}
 use Rattle.std.specs.List.{list_any}
-use Rattle.calc_addr.specs.Places.{Place, Rectangle}
+use Rattle.calc_addr.specs.Places.{Rectangle}
 use Rattle.calc_model.specs.Listeners.{listed}
 use Rattle.calc_model.specs.Touched.{CellSet}
 use Rattle.listener_hub.specs.Hubs.{areas_read}

@@ -1,10 +1,7 @@
-use Rattle.std.proofs.Common.{◌≡◌, ◌||◌, ◌++◌, ◌∷◌, [], List, Vec, Global, Bool, true, false, refl, sym, ap, ◌∙◌}
+use Rattle.std.proofs.Common.{◌≡◌, Vec, Global, sym, ap, ◌∙◌}
 use Rattle.std.specs.List.{list_any}
-use Rattle.std.specs.Ordering.{eq_by_cmp}
-use Rattle.std.proofs.lemmas.List.Folds.{list_any-append}
-use Rattle.calc_addr.specs.Places.{Place, Rectangle, covers, place_cmp}
+use Rattle.calc_addr.specs.Places.{covers}
 use Rattle.calc_addr.specs.declared.cell.Area.{Area}
-use Rattle.calc_model.specs.declared.content.Content.{Content}
 use Rattle.calc_model.specs.Books.{content_at}
 use Rattle.calc_model.specs.Touched.{CellSet}
 use Rattle.workbook.specs.Touched.{uses_any}

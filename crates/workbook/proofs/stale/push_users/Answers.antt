@@ -1,7 +1,7 @@
-use Rattle.std.proofs.Common.{◌≡◌, ◌||◌, ◌&&◌, Bool, true, false, slice_get, length, Vec, Global, Some, refl, sym, ap, ◌∙◌, arith}
+use Rattle.std.proofs.Common.{◌≡◌, ◌||◌, ◌&&◌, Bool, true, false, slice_get, Vec, Global, Some, refl, sym, ap, ◌∙◌, arith}
 use Rattle.std.specs.List.{list_any}
 use Rattle.std.proofs.lemmas.Option.{get_or_from_slice_get, slice_get_within}
-use Rattle.calc_addr.specs.Places.{Place, covers}
+use Rattle.calc_addr.specs.Places.{covers}
 use Rattle.calc_addr.specs.declared.cell.Area.{Area}
 use Rattle.calc_model.specs.Books.{content_at}
 use Rattle.calc_model.specs.Stale.{is_formula_cell}

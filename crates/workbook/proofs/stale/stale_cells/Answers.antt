@@ -1,8 +1,8 @@
-use Rattle.std.proofs.Common.{◌≡◌, ◌≤◌, ◌&&◌, ◌||◌, true, false, length, List, sym, ap, subst, ◌∙◌, arith, refl}
-use Rattle.std.specs.Prelude.{IfOk, if◌then◌else◌, Some, None}
+use Rattle.std.proofs.Common.{◌≡◌, ◌&&◌, true, sym, ap, subst, ◌∙◌}
+use Rattle.std.specs.Prelude.{if◌then◌else◌, Some, None}
 use Rattle.std.specs.List.{list_any}
 use Rattle.std.proofs.lemmas.Result.{IfOk-weaker}
-use Rattle.calc_addr.specs.Places.{Place, Rectangle, covers}
+use Rattle.calc_addr.specs.Places.{Place, covers}
 use Rattle.calc_model.specs.Books.{Book, content_at, is_formula}
 use Rattle.calc_model.specs.Reads.{reads}
 use Rattle.calc_model.specs.Stale.{is_formula_cell, reaches}
@@ -11,7 +11,7 @@ use Rattle.listener_hub.specs.Hubs.{areas_read}
 use Rattle.dirty_spread.specs.Spreading.{AreStale}
 use Rattle.dirty_spread.specs.Waves.{has}
 use Rattle.dirty_spread.proofs.StaleLaws.{stale_cells}
-use Rattle.workbook.specs.Touched.{is_touched, lies_in}
+use Rattle.workbook.specs.Touched.{is_touched}
 use Rattle.workbook.proofs.Counting.{few_formulas}
 use Rattle.workbook.proofs.Staleness.{all_reach}
 use Rattle.workbook.proofs.Tests.{has_by}

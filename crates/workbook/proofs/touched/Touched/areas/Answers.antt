@@ -1,8 +1,8 @@
-use Rattle.std.proofs.Common.{◌≡◌, ◌||◌, ◌++◌, [], ◌∷◌, List, Bool, true, false, refl, sym, ap, ◌∙◌}
+use Rattle.std.proofs.Common.{◌≡◌, ◌||◌, Bool, true, false, refl, sym, ap, ◌∙◌}
 use Rattle.std.specs.List.{list_any}
 use Rattle.std.specs.Ordering.{eq_by_cmp}
-use Rattle.calc_addr.specs.Places.{Place, Rectangle, covers, place_cmp}
-use Rattle.workbook.specs.Touched.{Parts, contains_cell, lies_in}
+use Rattle.calc_addr.specs.Places.{covers, place_cmp}
+use Rattle.workbook.specs.Touched.{contains_cell, lies_in}
 use Rattle.workbook.proofs.Tests.{or_moved, or_swapped, pushed_area}
 use Rattle.workbook.proofs.touched.Touched.areas.Goals as goal
 

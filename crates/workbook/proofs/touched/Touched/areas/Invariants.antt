@@ -1,7 +1,6 @@
 use Rattle.std.proofs.Common.{◌≡◌, ◌||◌}
 use Rattle.std.specs.List.{list_any}
-use Rattle.std.specs.Ordering.{eq_by_cmp}
-use Rattle.calc_addr.specs.Places.{Place, covers, place_cmp}
+use Rattle.calc_addr.specs.Places.{Place, covers}
 use Rattle.workbook.specs.Touched.{contains_cell}
 use Rattle.workbook.proofs.touched.Touched.areas.Given as goal
 

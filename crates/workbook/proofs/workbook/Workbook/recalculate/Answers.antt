@@ -1,12 +1,8 @@
-use Rattle.std.proofs.Common.{◌≡◌, true, false, not, sym, ap, subst, ◌∙◌, refl, length}
-use Rattle.std.specs.Prelude.{OnOk}
-use Rattle.std.proofs.lemmas.Bool.{false≢true}
+use Rattle.std.proofs.Common.{◌≡◌, true, not, sym, ap, subst, ◌∙◌, refl}
 use Rattle.calc_addr.specs.Places.{Place}
 use Rattle.calc_model.specs.Books.{Book, IsBook}
-use Rattle.calc_model.specs.Stale.{count_in, is_formula_cell}
 use Rattle.dirty_spread.specs.Waves.{has}
 use Rattle.recalc.specs.Recalculation.{AreRight, beside}
-use Rattle.workbook.specs.Touched.{Parts}
 use Rattle.workbook.specs.Workbook.{State, current, stale_of}
 use Rattle.workbook.proofs.Counting.{counted}
 use Rattle.workbook.proofs.Recalculating.{current_by, listed_stale, on_err_so, right_part, same_stale, shows_all, stale_formula}

@@ -1,12 +1,13 @@
-use Rattle.std.proofs.Common.{◌≡◌, ◌||◌, ◌&&◌, Bool, true, false, ap, refl, sym, subst, ◌∙◌}
+use Rattle.std.proofs.Common.{◌≡◌, ◌||◌, ◌&&◌, false, ap, subst, ◌∙◌}
 use Rattle.std.specs.List.{list_any}
 use Rattle.std.proofs.lemmas.Result.{on_ok_weaker}
 use Rattle.calc_addr.specs.Places.{Place, covers}
-use Rattle.calc_model.specs.Books.{Book, content_at, is_formula}
+use Rattle.calc_model.specs.Books.{Book}
 use Rattle.calc_model.specs.Listeners.{listed}
 use Rattle.calc_model.specs.Reads.{reads}
 use Rattle.calc_model.specs.Stale.{is_formula_cell}
 use Rattle.calc_model.specs.Touched.{rows_from}
+use Rattle.calc_model.proofs.Reached.{or_true}
 use Rattle.listener_hub.specs.Hubs.{areas_read}
 use Rattle.formula_listeners.specs.Held.{HoldsReads}
 use Rattle.dirty_spread.specs.Waves.{has}
@@ -35,3 +36,7 @@ returns-clause-touched c =
     ∙ ap (λ b. b || list_any changes (reads before.book q)) (c.in_ok-add_area.ensures.touched q)
     ∙ or_moved (lies_in before.touched q) (covers (rows_from c.args.sheet c.args.place) q) (list_any changes (reads before.book q))))
     c.touch_readers.ensures.cells
+
+pub touch_readers-requires-clause-inside : goal.touch_readers-requires-clause-inside
+touch_readers-requires-clause-inside c = λ q inside.
+    c.in_ok-add_area.ensures.touched q ∙ ap (λ b. lies_in c.self.inside.touched q || b) inside ∙ or_true (lies_in c.self.inside.touched q)

@@ -1,4 +1,4 @@
-use Rattle.std.proofs.Common.{◌≡◌, ap, sym, not, ◌∙◌}
+use Rattle.std.proofs.Common.{ap, not, ◌∙◌}
 use Rattle.calc_model.specs.Books.{Book}
 use Rattle.calc_model.specs.Results.{shown_by}
 use Rattle.calc_model.specs.Scalars.{CellValues}
