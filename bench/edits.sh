@@ -23,9 +23,9 @@ awk 'BEGIN {
     }
 }' >book
 echo '# nothing' >nothing
-awk 'BEGIN { for (k = 0; k < 1000; k++) print "set A50000 " k }' >number
-awk 'BEGIN { for (k = 0; k < 1000; k++) print "set B50000 " (k % 2 ? "=[.A50000]*2" : k) }' >kinds
-awk 'BEGIN { for (k = 0; k < 1000; k++) print "set A" (k * 7919) % 100000 + 1, k }' >scattered
+awk 'BEGIN { for (k = 0; k < 50000; k++) print "set A50000 " k }' >number
+awk 'BEGIN { for (k = 0; k < 50000; k++) print "set B50000 " (k % 2 ? "=[.A50000]*2" : k) }' >kinds
+awk 'BEGIN { for (k = 0; k < 50000; k++) print "set A" (k * 7919) % 100000 + 1, k }' >scattered
 awk 'BEGIN { for (k = 0; k < 20; k++) print "insert 50000 1" }' >insert
 awk 'BEGIN { for (k = 0; k < 20; k++) print "delete 50000 1" }' >delete
 awk 'BEGIN { for (k = 0; k < 5; k++) print "fill B1 B1:B100000" }' >fill
