@@ -29,6 +29,8 @@ awk 'BEGIN { for (k = 0; k < 50000; k++) print "set A" (k * 7919) % 100000 + 1, 
 awk 'BEGIN { for (k = 0; k < 20; k++) print "insert 50000 1" }' >insert
 awk 'BEGIN { for (k = 0; k < 20; k++) print "delete 50000 1" }' >delete
 awk 'BEGIN { for (k = 0; k < 5; k++) print "fill B1 B1:B100000" }' >fill
+awk 'BEGIN { for (k = 0; k < 5; k++) print "copy B1:B100000 G1" }' >copy
+awk 'BEGIN { for (k = 0; k < 5; k++) print "copy A1:A100000 G1" }' >numbers
 
 # The nanoseconds of the quickest of three runs of a script.
 time_of() {
@@ -52,7 +54,7 @@ idle="$(time_of nothing)"
 memory="$(/usr/bin/env time -f %M "$top/crates/calc/out/calc" book <nothing 2>&1 >/dev/null)"
 echo "load $((idle / 1000000)) ms, $((memory / 1024)) MiB"
 printf '%-10s %10s %10s %10s\n' edit calc C ratio
-for edit in number kinds scattered insert delete fill; do
+for edit in number kinds scattered insert delete fill copy numbers; do
     lines="$(wc -l <"$edit")"
     spent="$(time_of "$edit")"
     awk -v edit="$edit" -v calc="$(((spent - idle) / lines))" '

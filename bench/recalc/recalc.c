@@ -1,5 +1,5 @@
 // Recalculations of a book of 100,000 rows in plain arrays of decimals with nine places: numbers, their doubles, a
-// running sum, and sums over windows of eight rows. Each kind of edit calculates again the rows that it makes stale.
+// running sum, and sums over windows of eight rows; and of numbers and their doubles alone, one after each edit. Each kind of edit calculates again the rows that it makes stale.
 // Prints a line for each: its name and nanoseconds. The last sums go to the standard error.
 #include <inttypes.h>
 #include <stdint.h>
@@ -11,6 +11,7 @@
 enum { ROWS = 100000, PLACES = 1000000000 };
 
 static int64_t a[ROWS + 2], b[ROWS + 2], c[ROWS + 2], d[ROWS + 2];
+static int64_t number[ROWS + 2], twice[ROWS + 2];
 static int rows = ROWS;
 
 static int64_t now(void) {
@@ -41,6 +42,18 @@ static void changed(const char *name, int row, int times) {
     printf("%s %" PRId64 "\n", name, (now() - start) / times);
 }
 
+// Numbers all over the first of two columns, each with its double alone.
+static void scattered(int times) {
+    int64_t start = now();
+    for (int k = 0; k < times; k++) {
+        int row = (int)(k * 7919LL % ROWS) + 1;
+        number[row] = (int64_t)k * PLACES;
+        twice[row] = product(number[row], 2LL * PLACES);
+        __asm__ volatile("" ::: "memory");
+    }
+    printf("scattered %" PRId64 "\n", (now() - start) / times);
+}
+
 int main(void) {
     for (int i = 1; i <= rows; i++) a[i] = (int64_t)((7 + 37 * i) % 1000) * PLACES;
     int64_t start = now();
@@ -55,6 +68,13 @@ int main(void) {
     calculate(50000, rows);
     printf("insert %" PRId64 "\n", now() - start);
     changed("last", rows - 8, 1000);
-    fprintf(stderr, "%" PRId64 " %" PRId64 "\n", c[rows] / PLACES, d[rows] / PLACES);
+    for (int i = 1; i <= ROWS; i++) {
+        number[i] = (int64_t)((7 + 37 * i) % 1000) * PLACES;
+        twice[i] = product(number[i], 2LL * PLACES);
+    }
+    scattered(1000);
+    int64_t sum = 0;
+    for (int i = 1; i <= ROWS; i++) sum += twice[i];
+    fprintf(stderr, "%" PRId64 " %" PRId64 " %" PRId64 "\n", c[rows] / PLACES, d[rows] / PLACES, sum / PLACES);
     return 0;
 }

@@ -1,5 +1,5 @@
 -- Copied and filled contents: they aren't empty, and how many cells there are with them.
-use Rattle.std.proofs.Common.{◌≡◌, ◌≤◌, ◌<◌, ◌+◌, ◌-◌, ℕ, true, false, cond, suc, [], length, map, refl, sym, ap, ◌∙◌, arith}
+use Rattle.std.proofs.Common.{◌≡◌, ◌<◌, ◌+◌, ◌-◌, ℕ, true, false, cond, [], length, map, refl, sym, ap, ◌∙◌, arith}
 use Rattle.std.specs.List.{list_all}
 use Rattle.std.specs.BTreeMap.{insert_entry, is_at}
 use Rattle.std.specs.Map.{remove_entry}
@@ -9,14 +9,12 @@ use Rattle.std.proofs.lemmas.Bool.Decides.{nat_tests}
 use Rattle.std.proofs.lemmas.List.{length-map}
 use Rattle.calc_addr.specs.Places.{Place, Rectangle, covers, place_cmp, places}
 use Rattle.calc_addr.proofs.Walking.Places.{places_rise}
-use Rattle.calc_model.specs.declared.limits.TheConstants.{MOST_CELLS}
 use Rattle.calc_model.specs.declared.content.Content.{Content}
 use Rattle.calc_model.specs.declared.content.Content.TheVariants.{Empty, Constant, Formula, Raw}
-use Rattle.calc_model.specs.Books.{is_cell_entry, is_content, is_held, is_place, with_content}
+use Rattle.calc_model.specs.Books.{is_content, is_held, with_content}
 use Rattle.calc_model.specs.CellEdits.{CellEntries, after_copy, after_fill, area_at, copied_entry, equal_place, filled_entries, moved_content, with_entries, within_area, without_area}
-use Rattle.calc_model.proofs.Areas.{Inside, all_places, both_true, covered, inside}
-use Rattle.calc_model.proofs.BooksKept.{longer_by_one}
-use Rattle.calc_model.proofs.EntriesMoved.{all-filter, all-filtered, all-map, sorted-filter, sorted-moved}
+use Rattle.calc_model.proofs.Areas.{Inside, all_places, covered, inside}
+use Rattle.calc_model.proofs.EntriesMoved.{all-filtered, all-map, sorted-filter, sorted-moved}
 use Rattle.cell_columns.specs.Filled.{moved_entries}
 use Rattle.book_parts.proofs.Inserted.{area_fresh, length-inserts, rising-sorted}
 
@@ -24,29 +22,11 @@ use Rattle.book_parts.proofs.Inserted.{area_fresh, length-inserts, rising-sorted
 pub put_one : (es : CellEntries) (cell : Place) (content : Content) → is_held content ≡ true → with_content es cell content ≡ insert_entry place_cmp es cell content
 put_one es cell content held = ap (λ b. cond b (insert_entry place_cmp es cell content) (remove_entry (is_at (place_cmp cell)) es)) held
 
-pub room_for_one : (es : CellEntries) (cell : Place) (content : Content) (left : ℕ) → length es + suc left ≤ MOST_CELLS → length (with_content es cell content) ≤ MOST_CELLS
-room_for_one es cell content left room = omega (arith, room, longer_by_one es cell content)
-
-pub room_behind : (es : CellEntries) (cell : Place) (content : Content) (left : ℕ) → length es + suc left ≤ MOST_CELLS → length (with_content es cell content) + left ≤ MOST_CELLS
-room_behind es cell content left room = omega (arith, room, longer_by_one es cell content)
-
-pub still_held : (from to : Place) (content : Content) → is_held content ≡ true → is_held (moved_content from to content) ≡ true
-still_held from to Empty held = held
-still_held from to (Constant value) held = refl
-still_held from to (Formula tree) held = refl
-still_held from to (Raw text) held = refl
-
 pub content_held : (content : Content) → is_content content ≡ true → is_held content ≡ true
 content_held Empty is = is
 content_held (Constant value) is = refl
 content_held (Formula tree) is = refl
 content_held (Raw text) is = refl
-
-pub copied_held : (area : Rectangle) (to : Place) (es : CellEntries) → list_all is_cell_entry es ≡ true → list_all (λ e. is_held e.1) (map (copied_entry area to) (within_area es area)) ≡ true
-copied_held area to es held =
-    all-map is_cell_entry (λ e. covers area e.0) (λ e. is_held e.1) (copied_entry area to)
-    (λ e is _. still_held e.0 (equal_place area to e.0) e.1 (content_held e.1 (both_true (is_place e.0) (is_content e.1) is).1))
-    (within_area es area) (all-filter is_cell_entry (λ e. covers area e.0) es held) (all-filtered (λ e. covers area e.0) es)
 
 -- equal places lie in the area that begins at the cell, in the same order
 lands : (area : Rectangle) (to p : Place) → covers area p ≡ true → covers (area_at area to) (equal_place area to p) ≡ true

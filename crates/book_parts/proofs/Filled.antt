@@ -45,6 +45,11 @@ rows_parted sheet col row end last low high =
     ∙ ap (λ k. map at (range_with_len row (end + 1 - row) ++ range_with_len k (last + 1 - (end + 1)))) behind
     ∙ map-append at (range_with_len row (end + 1 - row)) (range_with_len (end + 1) (last + 1 - (end + 1)))
 
+pub no_rows : (sheet col first last : ℕ) → last + 1 ≤ first → column_places sheet col first last ≡ []
+no_rows sheet col first last past =
+    let none : last + 1 - first ≡ 0 = omega (arith, past) in
+    ap (λ n. map (λ row. let p : Place = record { sheet = sheet; col = col; row = row } in p) (range_with_len first n)) none
+
 -- first some cells, and then others
 pub then_more : (es : CellEntries) (from : Place) (content : Content) (xs ys : List Place) → with_entries es (moved_entries from content (xs ++ ys)) ≡ with_entries (with_entries es (moved_entries from content xs)) (moved_entries from content ys)
 then_more es from content xs ys =

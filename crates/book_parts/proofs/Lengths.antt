@@ -64,7 +64,8 @@ fresh (e ∷ es) q none =
       | false ↦ λ apart none. both_so (not (eq_by_cmp place_cmp q e.0)) (is_fresh q es) (ap (λ b. not b) apart) (fresh es q none)
     ] refl none
 
-found_held : (es : CellEntries) → list_all is_cell_entry es ≡ true → (q : Place) (c : Content) → find place_cmp q es ≡ Some c → is_held c ≡ true
+-- what is found is held
+pub found_held : (es : CellEntries) → list_all is_cell_entry es ≡ true → (q : Place) (c : Content) → find place_cmp q es ≡ Some c → is_held c ≡ true
 found_held [] h q c is = cc
 found_held (e ∷ es) h q c is =
     let parts = both_true (is_cell_entry e) (list_all is_cell_entry es) h in

@@ -10,6 +10,10 @@ pub mod Inserted
 -- rows that are filled
 mod Filled
 pub mod Copied
+-- an area's contents cell by cell, and what is copied as a piece
+mod HeldCells
+mod Onward
+mod Alike
 -- what an edit leaves in the cells that it doesn't touch
 pub mod LeftCells
 -- cells that are pushed out of the sheet

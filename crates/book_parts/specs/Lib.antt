@@ -1,2 +1,3 @@
 pub mod GeneratedColumns
+pub mod Pieces
 pub mod Runs

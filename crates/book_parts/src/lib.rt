@@ -4,6 +4,7 @@
 mod copies;
 mod generated;
 mod parts;
+mod pieces;
 mod rows;
 
 pub use copies::{area_at, lies_inside};

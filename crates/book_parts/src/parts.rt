@@ -1,5 +1,5 @@
 ghost use Rattle.std.specs.Prelude.{◌≡◌, ◌≤◌, ◌<◌, ◌+◌, ◌-◌, ◌↔◌, nat_le, [], false, true, length, IfNone, IfOk, IfSome, IsErrOf, IsTrue, OnOk, OnErr, Contains, map};
-ghost use Rattle.std.specs.List.{All, AllPairs, list_all};
+ghost use Rattle.std.specs.List.{All, AllPairs};
 ghost use Rattle.calc_model.specs.Books.{IsBook, content_at, formula_count, is_formula, is_held, with_content};
 ghost use Rattle.calc_addr.specs.Places.{IsBefore, Place, column_places, places};
 ghost use Rattle.calc_addr.specs.ValidReferences.{is_rectangle};
@@ -18,10 +18,12 @@ ghost use Rattle.cell_runs.specs.CellLists.{cells_of};
 ghost use Rattle.cell_columns.specs.ColumnRuns.{AllLie, IsSheetColumn, blocks_in, groups_in, rows_of_block, rows_of_group, rows_of_run};
 ghost use Rattle.cell_columns.specs.Looks.{AreSlotsOf, IsLent};
 ghost use Rattle.cell_columns.specs.Walks.{places_of};
+ghost use Rattle.book_parts.specs.Pieces.{all_entries, entries_of};
 ghost use Rattle.book_parts.specs.Runs.{AreEmpty, IsCodedIn};
 
-use crate::copies::{area_at, copied_entries};
+use crate::copies::{area_at, copied_pieces};
 use crate::generated::generated;
+use crate::pieces::Piece;
 use crate::rows::{Rows, is_pushed_out};
 use block_column::{Block, BlockColumn, SlotRef};
 use calc_addr::{Area, Cell, LAST_ROW, LAST_SHEET, NoMemory, Run};
@@ -212,8 +214,10 @@ impl BookParts {
         left + self.cells.count_within(area) <= MOST_CELLS
     }
 
-    /// Copies the contents of an area, moved, to the equal places of the area that begins at `to`. It costs
-    /// what the setting of each does. Where memory is refused, some places may be empty.
+    /// Copies the contents of an area, moved, to the equal places of the area that begins at `to`. Formulas of
+    /// one group and equal constants in neighbouring rows cost what the setting of neighbouring rows does, once
+    /// for each relative form that they have there, and other constants what the setting of each does. Where
+    /// memory is refused, some places may be empty.
     pub fn copy(&mut self, alloc: Global, area: Area, to: Cell) -> Result<(), NoMemory>
         requires place { is_rectangle (area_at area to) ≡ true }
         requires room { length (after_copy self.old.cells area to) ≤ MOST_CELLS }
@@ -222,24 +226,39 @@ impl BookParts {
         ensures book { IsBook self.new }
     {
         self.are_book();
-        let entries = copied_entries(alloc, &self.cells, area, to)?;
+        let pieces = copied_pieces(alloc, &self.cells, area, to)?;
         self.clear(area_at(area, to))?;
-        self.put_all(alloc, &entries)
+        self.put_pieces(alloc, &pieces)
     }
 
-    /// Puts contents that aren't empty into cells, one after the other.
-    fn put_all(&mut self, alloc: Global, entries: &[(Cell, Content)]) -> Result<(), NoMemory>
+    /// Puts pieces into their rows, one after the other.
+    fn put_pieces(&mut self, alloc: Global, pieces: &[Piece]) -> Result<(), NoMemory>
         requires book { IsBook self.old }
-        requires held { list_all (λ entry. is_held entry.1) entries.now ≡ true }
-        requires room { length self.old.cells + length entries.now ≤ MOST_CELLS }
-        ensures cells { OnOk result (self.new.cells ≡ with_entries self.old.cells entries.now) }
+        requires room { length self.old.cells + length (all_entries pieces.now) ≤ MOST_CELLS }
+        ensures cells { OnOk result
+            (self.new.cells ≡ with_entries self.old.cells (all_entries pieces.now)) }
         ensures names { self.new.names ≡ self.old.names }
         ensures book { IsBook self.new }
     {
-        for (cell, content) in entries {
-            self.set(alloc, *cell, content)?;
+        for piece in pieces {
+            self.put_piece(alloc, piece)?;
         }
         Ok(())
+    }
+
+    /// Puts a piece into its rows.
+    fn put_piece(&mut self, alloc: Global, piece: &Piece) -> Result<(), NoMemory>
+        requires book { IsBook self.old }
+        requires room { length self.old.cells + length (entries_of piece.now) ≤ MOST_CELLS }
+        ensures cells { OnOk result
+            (self.new.cells ≡ with_entries self.old.cells (entries_of piece.now)) }
+        ensures names { self.new.names ≡ self.old.names }
+        ensures book { IsBook self.new }
+    {
+        if !piece.content.is_held() {
+            return Ok(());
+        }
+        self.put_rows(alloc, piece.from, &piece.content, piece.rows)
     }
 
     /// Whether the content of a cell fits into each cell of an area: there would be no more cells than a

@@ -51,8 +51,12 @@ has_bytes text = not (length text == 0)
 abbrev pub filled : Records → ℕ
 filled all = sum_by (λ fields. count_by has_bytes fields) all
 
+-- whether too many fields have a byte
+abbrev pub full_fault : Records → Option BookCause
+full_fault all = if nat_lt MOST_CELLS (filled all) then Some CellsFull else None
+
 abbrev pub records_fault : Records → Option BookCause
-records_fault all = option_or (first_fault 1 all) (if nat_lt MOST_CELLS (filled all) then Some CellsFull else None)
+records_fault all = option_or (first_fault 1 all) (full_fault all)
 
 -- why a book of these bytes is refused, if it is
 unfoldable pub book_fault : List ℕ → Option BookCause

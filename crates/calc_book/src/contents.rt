@@ -12,17 +12,24 @@ use rayon::prelude::*;
 use std::alloc::Global;
 use std::thread::Threads;
 
-/// The contents of the records' fields, in order, read by as many threads as there are processors.
+/// How many fields are worth a thread of their own.
+const PIECE_FIELDS: usize = 4_096;
+
+/// The contents of the records' fields, so many in all, in order. They are read by as many threads as there are
+/// processors, where they are enough for that.
 pub(crate) fn read_contents<T: Threads + Sync>(
     rt: &T,
     alloc: Global,
     rows: &[ByteRecord],
+    field_count: usize,
 ) -> Result<Vec<Vec<Content>>, NoMemory>
     requires { All (λ row. AllText (fields_of row)) rows.now }
     ensures { IfOk result (λ contents. map (λ row. row.items) contents.items
         ≡ map (λ row. map field_of (fields_of row)) rows.now) }
 {
+    let pieces = field_count / PIECE_FIELDS + 1;
     rows.par_iter()
+        .with_min_len(rows.len() / pieces)
         .map(
             |row: &ByteRecord| -> Result<Vec<Content>, NoMemory>
                 requires { AllText (fields_of row.now) }

@@ -4,9 +4,11 @@
 mod cause;
 mod contents;
 mod filled;
+mod growing;
 mod laws;
 mod limits;
 mod loading;
+mod placing;
 mod rows;
 
 pub use cause::{BookCause, BookFault, push_cause};

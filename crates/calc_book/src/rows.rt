@@ -1,26 +1,34 @@
 //! The records of a book, each one tested as it is read.
 ghost use Rattle.calc_book.specs.BookCells.{bad_cell, first_fault, record_fault, records_in};
+ghost use Rattle.calc_book.specs.Growing.{Grows};
 ghost use Rattle.calc_book.specs.Loads.{FindsFault};
 ghost use Rattle.calc_addr.specs.declared.cell.TheConstants.{LAST_COL, LAST_ROW};
 ghost use Rattle.csv.specs.Records.{fields_of};
-ghost use Rattle.std.specs.Prelude.{IfOk, length, map, ◌+◌, ◌≡◌, ◌≤◌};
+ghost use Rattle.std.specs.Prelude.{OnOk, [], length, ℕ, ◌+◌, ◌≡◌, ◌≤◌};
 
 use crate::cause::{BookCause, BookFault};
+use crate::growing::GrowingBook;
 use calc_addr::{Cell, LAST_COL, LAST_ROW};
 use calc_model::is_utf8;
 use csv::{ByteRecord, ReaderBuilder};
 use std::alloc::{AllocError, Global};
+use std::thread::Threads;
 
-/// The records of the bytes, or the fault of the first one that has one.
-pub(crate) fn read_rows(alloc: Global, bytes: &[u8]) -> Result<Vec<ByteRecord>, BookFault>
-    ensures rows { IfOk result (λ rows. map fields_of rows.items ≡ records_in bytes.now) }
+/// Takes the records of the bytes into a book, up to the first that has a fault.
+pub(crate) fn take_records<T: Threads + Sync>(
+    rt: &T,
+    alloc: Global,
+    bytes: &[u8],
+    book: &mut GrowingBook,
+) -> Result<(), BookFault>
+    requires { Grows book.old 1 (records_in bytes.now) (records_in bytes.now) }
+    ensures grows { OnOk result ((row : ℕ) × Grows book.new row [] (records_in bytes.now)) }
     ensures fault { FindsFault result (first_fault 1 (records_in bytes.now)) }
 {
     let reader = ReaderBuilder::new()
         .has_headers(false)
         .flexible(true)
         .from_reader(alloc, bytes);
-    let mut rows = Vec::new(alloc);
     let mut row = 1;
     for record in reader.into_byte_records() {
         let Ok(record) = record else {
@@ -29,12 +37,12 @@ pub(crate) fn read_rows(alloc: Global, bytes: &[u8]) -> Result<Vec<ByteRecord>, 
         if let Some(cause) = record_fault(row, &record) {
             return Err(BookFault::Refused(cause));
         }
-        if rows.push(record).is_err() {
+        let Ok(()) = book.take(rt, alloc, record) else {
             return Err(BookFault::NoMemory(AllocError));
-        }
+        };
         row += 1;
     }
-    Ok(rows)
+    Ok(())
 }
 
 /// Why the record can't be that row.

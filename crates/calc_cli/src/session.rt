@@ -1,18 +1,26 @@
 //! A workbook with its watchers.
 ghost use Rattle.std.specs.List.{All, flat_map};
-ghost use Rattle.std.specs.Prelude.{◌≡◌, ◌≤◌, ◌-◌, ◌↔◌, ◌++◌, ◌==◌, [], not, true, false, length, IfOk, IfSome, IsSome, OnOk};
+ghost use Rattle.std.specs.Prelude.{◌≡◌, ◌≤◌, ◌-◌, ◌↔◌, ◌++◌, ◌==◌, [], not, true, false, length, IfOk, IfSome, IsSome, OnErr, OnOk};
 ghost use Rattle.calc_cli.specs.Output.{recalculated, with_watcher, without_watcher};
 ghost use Rattle.calc_cli.specs.Sessions.{session_of};
+ghost use Rattle.calc_addr.specs.Places.{Place};
 ghost use Rattle.calc_model.specs.Stale.{count_in};
 ghost use Rattle.calc_model.specs.Val.{val};
 ghost use Rattle.calc_watch.specs.Reports.{described};
 ghost use Rattle.workbook.specs.Workbook.{IsFresh, stale_of, values_of};
 
 use calc_addr::{Area, NoMemory};
+use calc_io::NoGate;
+use calc_model::Steps;
 use calc_watch::{Desktop, Watcher};
+use recalc::Recalculated;
 use std::alloc::Global;
-use std::marker::Model;
-use workbook::{Recalculated, Workbook};
+use std::marker::{Brand, Model};
+use std::sync::ledger::{Blank, Ledger};
+use workbook::Workbook;
+
+/// The parts of a counter of steps: one for each worker that there may be, and one that stays.
+const PARTS: u64 = 65;
 
 /// A workbook, the watchers that are attached to its cells, and the stock of those that aren't yet, which
 /// were told nothing.
@@ -69,7 +77,7 @@ impl<W: Watcher> Session<W> {
         ensures session { OnOk result
             (session_of self.new ≡ recalculated (session_of self.old)) }
     {
-        let done = self.workbook.recalculate(alloc)?;
+        let done = recalculate::<Brand>(alloc, &mut self.workbook, Blank::new(PARTS))?;
         self.desktop.tell_all(&self.workbook.values())?;
         Ok(done)
     }
@@ -120,6 +128,32 @@ impl<W: Watcher> Session<W> {
     {
         self.desktop.detach()
     }
+}
+
+/// Recalculates with a counter of steps of its own.
+fn recalculate<L: Ledger>(
+    alloc: Global,
+    workbook: &mut Workbook,
+    blank: Blank,
+) -> Result<Recalculated, NoMemory>
+    requires name { blank.name ≡ L.name }
+    requires parts { blank.parts ≡ L.parts }
+    requires enough { PARTS ≤ blank.parts }
+    requires fresh { IsFresh workbook.old }
+    ensures count { IfOk result (λ done.
+        done.stale ≡ count_in workbook.old.book (stale_of workbook.old)) }
+    ensures values { OnOk result ((q : Place)
+        → values_of workbook.new q ≡ val workbook.new.book q) }
+    ensures stale { OnOk result ((q : Place) → stale_of workbook.new q ≡ false) }
+    ensures kept { OnErr result ((q : Place)
+        → stale_of workbook.new q ≡ stale_of workbook.old q) }
+    ensures fresh { IsFresh workbook.new }
+    ensures book { workbook.new.book ≡ workbook.old.book }
+    ensures alive { workbook.new.dead ≡ workbook.old.dead }
+{
+    let (_book, share) = blank.open::<L>();
+    let mut steps = Steps::new(share);
+    workbook.recalculate(alloc, 1, &NoGate, &mut steps)
 }
 
 /// Takes a watcher that was told nothing.

@@ -1,12 +1,14 @@
 //! The outside of calc: where a book and a script come from, and where the output goes.
 //!
 //! A `Desk` lends books by their names and one script, and a `Sink` takes what is written. Both count
-//! their faults, so that whoever is answered `Failed` knows whose failure it was.
+//! their faults, so that whoever is answered `Failed` knows whose failure it was. A `Gate` is told of each
+//! unit of a recalculation.
 #![tactic(auto)]
 
 mod desk;
 mod edge;
 mod faults;
+mod gate;
 mod memory;
 mod page;
 mod shelf;
@@ -16,6 +18,7 @@ mod steady;
 pub use desk::Desk;
 pub use edge::{PipeDesk, PipeSink};
 pub use faults::{DeviceFault, Failed};
+pub use gate::{Gate, NoGate};
 pub use memory::{MemoryDesk, MemorySink};
 pub use sink::Sink;
 pub use steady::{SteadyDesk, SteadySink};

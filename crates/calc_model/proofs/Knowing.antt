@@ -8,22 +8,15 @@ use Rattle.calc_model.specs.declared.content.Content.{Content}
 use Rattle.calc_model.specs.declared.content.Content.TheVariants.{Empty, Constant, Formula, Raw}
 use Rattle.calc_model.specs.declared.tree.Tree.{Tree}
 use Rattle.calc_model.specs.Books.{Book, content_at, area_named, is_formula, formula_count}
-use Rattle.calc_model.specs.Reads.{Names, reads, areas, content_areas}
+use Rattle.calc_model.specs.Reads.{reads, areas, content_areas}
 use Rattle.calc_model.specs.Grounded.{all_cells, is_grounded, is_circular}
-use Rattle.calc_model.specs.Scalars.{CellValues}
 use Rattle.calc_model.specs.Eval.{eval, top}
-use Rattle.calc_model.specs.Val.{cell_value, val}
+use Rattle.calc_model.specs.Val.{val}
 use Rattle.calc_model.specs.Results.{Results, shown_content, shown_by, is_known, is_ready, IsSound, IsFinished, ShowsAll, Sets}
 use Rattle.calc_model.proofs.EvalSame.{eval_same}
 use Rattle.calc_model.proofs.Places.{same_places}
-use Rattle.calc_model.proofs.Rounds.{all_cells_more, grounded_constant, not_circular, grounded_by_reads}
-use Rattle.calc_model.proofs.Shown.{agree_by, val_by_reads, shows_its_value, shows_its_circle}
-
-shown_constant : (names : Names) (b : Bool) (v : CellValues) (p : Place) (o : Option Value) (x : Content) → is_formula x ≡ false → shown_content o x ≡ cell_value names b v p x
-shown_constant names b v p o Empty h = refl
-shown_constant names b v p o (Constant value) h = refl
-shown_constant names b v p o (Raw text) h = refl
-shown_constant names b v p o (Formula tree) h = cc
+use Rattle.calc_model.proofs.Rounds.{all_cells_more, not_circular, grounded_by_reads}
+use Rattle.calc_model.proofs.Shown.{agree_by, shows_its_value, shows_its_circle}
 
 or_left : (a b : Bool) → a ≡ true → (a || b) ≡ true
 or_left true b h = refl
@@ -43,26 +36,6 @@ unknown (Constant value) o h = cc
 unknown (Raw text) o h = cc
 
 module _ (book : Book) where
-  constant_right : (results : Results) (p : Place) → is_formula (content_at book p) ≡ false → shown_by book results p ≡ val book p
-  constant_right results p h = shown_constant (area_named book) (is_circular book p) (val book) p (results p) (content_at book p) h ∙ sym (val_by_reads book p)
-
-  constant_grounded : (p : Place) → is_formula (content_at book p) ≡ false → is_circular book p ≡ false
-  constant_grounded p h = ap not (grounded_constant book (formula_count book + 1) p h)
-
-  no_result : (b : Bool) → (not b || false) ≡ true → b ≡ false
-  no_result true h = cc
-  no_result false h = refl
-
-  -- with no result, the cells that hold no formula are known
-  pub sound_from_none : (results : Results) → ((p : Place) → results p ≡ None) → IsSound book results
-  sound_from_none results none =
-      let plain : (p : Place) → is_known book results p ≡ true → is_formula (content_at book p) ≡ false =
-      λ p h. no_result (is_formula (content_at book p)) (subst (λ (o : Option Value). (not (is_formula (content_at book p)) || is_some o) ≡ true) (none p) h) in
-      record {
-        right = λ p h. constant_right results p (plain p h);
-        grounded = λ p h. constant_grounded p (plain p h);
-      }
-
   module _ (results : Results) (sound : IsSound book results) where
     pub ready_grounded : (p : Place) → is_ready book results p ≡ true → is_circular book p ≡ false
     ready_grounded p h = grounded_by_reads book p (all_cells_more (is_known book results) (λ q. not (is_circular book q)) (λ q known. ap not (sound.grounded q known)) (reads book p) h)

@@ -1,6 +1,6 @@
 -- Parameters of a call that are taken from the stack one by one.
 use Rattle.std.proofs.Common.{◌≡◌, ℕ, ◌+◌, ◌-◌, List, [], ◌∷◌, ◌++◌, drop, length, map, reverse, take, ap, append_assoc, arith, refl, sym, ◌∙◌, length-append}
-use Rattle.std.proofs.lemmas.List.{append-nil, length-map, length-reverse, map-append, reverse-append}
+use Rattle.std.proofs.lemmas.List.{length-map, length-reverse, map-append, reverse-append}
 use Rattle.std.proofs.Math.Seq.{take-append_seam}
 use Rattle.calc_addr.specs.Places.{Place}
 use Rattle.calc_model.specs.Arguments.{meaning_of as meaning_of_arg}
@@ -17,9 +17,6 @@ pub record Passed (old now : List Operand) (args : List Arg) (count : ℕ) : Typ
   pub size : length taken ≡ count
   pub few : length args ≡ count
   pub means : (home : Place) (values : CellValues) → map (meaning_of_arg home values) args ++ stacked home values now ≡ stacked home values old
-
-pub none_passed : (old : List Operand) → Passed old old [] 0
-none_passed old = record { taken = []; split = sym (append-nil old); size = refl; few = refl; means = λ home values. refl }
 
 -- one more
 pub one_passed : (old now next : List Operand) (args : List Arg) (count : ℕ) (operand : Operand) (arg : Arg) → Passed old now args count → now ≡ next ++ operand ∷ [] → IsPassedAs operand arg → Passed old next (args ++ arg ∷ []) (count + 1)

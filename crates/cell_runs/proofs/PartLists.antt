@@ -206,9 +206,6 @@ module _ (front : List Rows) (starts : List ℕ) (h : AreStarts front starts) (x
     others = longer_others;
   }
 
-  pub starts_longer : AreStarts (front ++ y ∷ []) starts
-  starts_longer = starts_more front starts h y
-
 -- the last run of the list is lengthened by a cell
 pub added_last : (runs : List Rows) (starts : List ℕ) (x y : Rows) (q : Place) → AreStarts runs starts → 0 < length runs → x ≡ get_or runs (length runs - 1) x → 0 < length starts → get_or starts (length starts - 1) 0 < length runs → cells_of y ≡ cells_of x ++ q ∷ []
     → IsAdded (lists_of runs starts) (lists_of (set runs (length runs - 1) y) starts) (length (lists_of runs starts) - 1) q

@@ -7,7 +7,7 @@ ghost use Rattle.dirty_spread.specs.Spreading.{AreFormulas, AreStale, IsStale};
 use crate::marking::{mark_areas, mark_run};
 use crate::union::union_of_runs;
 use calc_addr::{Area, NoMemory, Run};
-use calc_model::Dependents;
+use calc_model::{Dependents, MOST_CELLS};
 use cell_runs::CellRuns;
 use std::alloc::Global;
 
@@ -115,7 +115,7 @@ pub fn spread<H: Dependents>(
     hub: &H,
 ) -> Result<CellRuns, NoMemory>
     requires formulas { AreFormulas (H.areas hub.now) formulas.now }
-    requires most { length formulas.now ≤ 4194304 }
+    requires most { length formulas.now ≤ MOST_CELLS }
     requires ready { H.ready hub.now ≡ true }
     requires some { 1 ≤ workers }
     requires few { workers ≤ 64 }

@@ -1,17 +1,15 @@
 -- What the formulas of a book read, by their codes.
 use Rattle.std.proofs.Common.{◌≡◌, ℕ, Bool, true, false, cond, List, Option, None, Some, unwrap_or, refl, sym, ap, ◌∙◌}
 use Rattle.std.specs.Option.{option_map}
-use Rattle.calc_addr.specs.Places.{IsPlace, IsRectangle, Place, Rectangle, covers}
+use Rattle.calc_addr.specs.Places.{IsPlace, Place, Rectangle}
 use Rattle.calc_model.specs.declared.tree.Tree.{Tree}
 use Rattle.calc_model.specs.declared.content.Content.{Content}
 use Rattle.calc_model.specs.declared.content.Content.TheVariants.{Empty, Constant, Formula, Raw}
 use Rattle.calc_model.specs.Books.{Book, NameEntries, content_at, entry_named, is_formula}
-use Rattle.calc_model.specs.Listeners.{ReadAreas}
 use Rattle.calc_model.specs.Reads.{areas, content_areas}
 use Rattle.formula_code.specs.Codes.{Codes, tree_at}
 use Rattle.formula_code.specs.Coded.{AreFormulasOf, CodeColumns, areas_by_code, code_of, coded_areas, formula_in}
-use Rattle.formula_listeners.specs.Held.{HoldsOutside, HoldsReads, areas_in}
-use Rattle.formula_listeners.proofs.AreaCells.{place_in}
+use Rattle.formula_listeners.specs.Held.{areas_in}
 
 pub whole : {X : Type 0} (b : Bool) (u v : Option X) → (b ≡ true → u ≡ v) → cond b u (cond b None v) ≡ v
 whole true u v same = same refl
@@ -38,10 +36,3 @@ module _ (codes : Codes) (names : NameEntries) (columns : CodeColumns) (book : B
   book_reads q place =
       content_coded codes names q (content_at book q) (code_of columns q) (are q place)
       ∙ ap (λ entries. content_reads codes entries q (content_at book q)) (sym named)
-
-  -- a hub that held all but an area, and holds the area now
-  pub holds_all : (area : Rectangle) (old new : ReadAreas) → IsRectangle area → ((q : Place) → new q ≡ cond (covers area q) (coded_areas codes names columns q) (old q)) → HoldsOutside area old book → HoldsReads new book
-  holds_all area old new valid is outside q =
-      is q
-      ∙ ap (λ o. cond (covers area q) (coded_areas codes names columns q) o) (outside q)
-      ∙ whole (covers area q) (coded_areas codes names columns q) (areas_in book q) (λ h. book_reads q (place_in area q valid h))

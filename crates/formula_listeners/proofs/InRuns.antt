@@ -1,5 +1,5 @@
 -- The cells of runs, as those of areas, and how far they lie below the first one.
-use Rattle.std.proofs.Common.{◌≡◌, ◌≤◌, ℕ, ◌-◌, Bool, true, false, ◌&&◌, nat_le, cond, List, map, Option, None, Some, refl, sym, ap, ◌∙◌, arith}
+use Rattle.std.proofs.Common.{◌≡◌, ◌≤◌, ℕ, ◌-◌, Bool, true, false, ◌&&◌, nat_le, cond, List, map, Option, Some, refl, sym, ap, ◌∙◌, arith}
 use Rattle.std.specs.Prelude.{◌==◌}
 use Rattle.std.specs.List.{All}
 use Rattle.std.proofs.lemmas.Bool.{and_parts, eqb-true}
@@ -64,10 +64,6 @@ is_place_of run q rows h =
 pub under : {X : Type 0} (b : Bool) (x y o : X) → (b ≡ true → x ≡ y) → cond b x o ≡ cond b y o
 under true x y o same = same refl
 under false x y o same = refl
-
-pub free_stays : {X : Type 0} (b : Bool) (o : Option X) → (b ≡ true → o ≡ None) → o ≡ cond b None o
-free_stays true o is = is refl
-free_stays false o is = refl
 
 -- the run of one cell
 pub single_is : (cell q : Place) → is_in (record { sheet = cell.sheet; col = cell.col; first = cell.row; last = cell.row }) q ≡ covers (single cell) q

@@ -84,6 +84,15 @@ impl LinkedBook {
         &self.parts
     }
 
+    /// A hub that holds what each formula of the book reads, beside the one that is here. It goes over all
+    /// columns, and is linear in their groups.
+    pub fn new_hub(&self, alloc: Global) -> Result<Hub, NoMemory>
+        ensures holds { IfOk result (λ hub. HoldsReads (areas_read hub) self.now.book) }
+        ensures ready { IfOk result (λ hub. hub.spent ≡ false) }
+    {
+        hub_of(alloc, &self.parts)
+    }
+
     /// The hub: where it isn't spent, it holds what each formula of the book reads.
     pub fn hub(&self) -> &Hub
         ensures spent { result.now.spent ≡ self.now.spent }

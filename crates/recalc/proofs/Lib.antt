@@ -6,3 +6,15 @@ pub mod Waving
 pub mod Listed
 -- results before the first wave, and all in the end
 pub mod Starting
+-- how many cells pass a test
+pub mod Counting
+-- how many steps the waves take
+pub mod Spending
+-- units that are found
+pub mod UnitLists
+-- which code rows have
+pub mod UnitRows
+-- units by codes and by forms
+pub mod UnitForms
+-- the waves of the book
+pub mod UnitWaves

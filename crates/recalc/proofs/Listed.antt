@@ -26,6 +26,10 @@ use Rattle.recalc.proofs.Adding.{alike}
 pub runs_have : (runs : List Rows) (q : Place) → has (all_cells runs) q ≡ is_in_any q runs
 runs_have runs q = alike (has (all_cells runs) q) (is_in_any q runs) (λ h. runs_in runs q (has_held (all_cells runs) q h)) (λ h. held_has (all_cells runs) q (in_runs runs q h))
 
+-- runs of the same cells have the same
+pub same_runs : (one other : List Rows) → all_cells one ≡ all_cells other → (q : Place) → is_in_any q one ≡ is_in_any q other
+same_runs one other same q = sym (runs_have one q) ∙ ap (λ cells. has cells q) same ∙ runs_have other q
+
 pub union_has : (runs : List Rows) (cells : List Place) → AreUnion runs cells → (q : Place) → has cells q ≡ is_in_any q runs
 union_has runs cells union q = alike (has cells q) (is_in_any q runs) (λ h. (union.exact q).0 (has_held cells q h)) (λ h. held_has cells q ((union.exact q).1 h))
 

@@ -42,7 +42,7 @@ module _ (book : Book) (problem : Problem) (holds : HoldsReads problem.read book
   done_by k q h = ap (all_cells (before k)) (read_by q h)
 
   -- what is done before a wave is so before the next
-  once_more : (k : ℕ) (q : Place) → is_done problem k q ≡ true → is_done problem (suc k) q ≡ true
+  pub once_more : (k : ℕ) (q : Place) → is_done problem k q ≡ true → is_done problem (suc k) q ≡ true
   once_more zero q h = absurd (false≢true h)
   once_more (suc k) q h =
       all_cells_more (before k) (before (suc k)) (λ p e. branch (stale p) (is_done problem k p) (not (problem.circular p)) (before (suc k) p)

@@ -1,2 +1,4 @@
+pub mod CodedUnits
 pub mod Evaluating
 pub mod Recalculation
+pub mod Units

@@ -4,6 +4,8 @@
 mod evaluating;
 mod recalculating;
 mod stored;
+mod units;
 mod value;
 
-pub use stored::StoredResults;
+pub use stored::{Recalculated, StoredResults};
+pub use units::UNIT_ROWS;

@@ -1,4 +1,5 @@
-ghost use Rattle.std.specs.Prelude.{◌≡◌, IfOk, true};
+ghost use Rattle.std.specs.Prelude.{◌≡◌, ◌+◌, IfOk, OnOk, true};
+ghost use Rattle.calc_model.specs.Counters.{HasRoom};
 ghost use Rattle.calc_model.specs.Eval.{eval, top};
 ghost use Rattle.calc_model.specs.Books.{area_named};
 ghost use Rattle.calc_model.specs.Results.{shown_by};
@@ -13,35 +14,27 @@ use cell_columns::Coded;
 use cell_interpreter::interpret;
 use formula_results::{FormulaResults, ShownCells};
 use std::alloc::Global;
-use std::sync::ledger::{Blank, Ledger};
+use std::sync::ledger::Ledger;
 
-/// What the formula with that code shows at `home` over what the cells show by some results.
+/// What the formula with that code shows at `home` over what the cells show by some results. It counts one
+/// step.
 pub(crate) fn value_of<L: Ledger>(
     alloc: Global,
     parts: &BookParts,
     results: &FormulaResults,
     home: Cell,
     formula: Coded<'_>,
-    blank: Blank,
+    steps: &mut Steps<L>,
 ) -> Result<Value, NoMemory>
-    requires name { blank.name ≡ L.name }
-    requires parts { blank.parts ≡ L.parts }
     requires coded { IsCodeAt formula.codes.now formula.id home }
+    requires room { HasRoom steps.old }
     ensures value { IfOk result (λ v. v ≡ top (eval home (area_named parts.now)
         (shown_by parts.now (results_of results.now))
         (tree_at formula.entry.codes.now formula.entry.id home))) }
     ensures used { IfOk result (λ v. is_used v ≡ true) }
+    ensures count { OnOk result (steps.new.count ≡ steps.old.count + 1) }
+    ensures parts { steps.new.parts ≡ steps.old.parts }
 {
-    let (_book, share) = blank.open::<L>();
-    let mut steps = Steps::new(share);
     let shown = ShownCells::of(parts, results);
-    interpret(
-        alloc,
-        formula.codes,
-        formula.id,
-        home,
-        parts,
-        &shown,
-        &mut steps,
-    )
+    interpret(alloc, formula.codes, formula.id, home, parts, &shown, steps)
 }

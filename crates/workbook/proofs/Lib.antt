@@ -24,7 +24,5 @@ pub mod Leavings
 pub mod EditsLeave
 -- a workbook whose hub was made anew
 pub mod Mended
--- how many formulas are stale
-pub mod Counting
 -- what a recalculation takes and leaves
 pub mod Recalculating

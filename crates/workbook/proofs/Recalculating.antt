@@ -1,15 +1,15 @@
 -- What a recalculation takes and leaves.
-use Rattle.std.proofs.Common.{◌≡◌, Bool, true, not, ◌&&◌, List, Result, Ok, Err, refl, ap, subst, ◌∙◌}
-use Rattle.std.specs.Prelude.{OnErr}
+use Rattle.std.proofs.Common.{◌≡◌, ℕ, Bool, true, not, ◌&&◌, List, Result, Ok, Err, refl, ap, subst, ◌∙◌}
+use Rattle.std.specs.Prelude.{IfOk, OnErr}
 use Rattle.calc_addr.specs.Places.{Place}
 use Rattle.calc_model.specs.Books.{Book}
-use Rattle.calc_model.specs.Stale.{is_formula_cell, reaches}
+use Rattle.calc_model.specs.Stale.{count_in, is_formula_cell, reaches}
 use Rattle.calc_model.specs.Touched.{CellSet}
 use Rattle.calc_model.specs.Val.{val}
 use Rattle.calc_model.proofs.Areas.{both_true}
 use Rattle.dirty_spread.specs.Waves.{has}
 use Rattle.recalc.specs.Recalculation.{AreRight, Stored, beside}
-use Rattle.workbook.specs.Touched.{Parts, is_touched}
+use Rattle.workbook.specs.Touched.{Parts, is_stale, is_touched}
 use Rattle.workbook.specs.Workbook.{IsFresh, State, current, stale_of, values_of}
 
 -- what is right is so of fewer cells
@@ -51,3 +51,9 @@ pub fresh_same : (one other : State) → one.book ≡ other.book → one.results
 fresh_same one other e r t fresh =
     subst (λ rs. AreRight other.book rs (current other)) r
     (right_part one.book other.book one.results (current one) (current other) e (λ q h. ap not (same_stale one other e t q) ∙ h) fresh)
+
+-- how many formulas of a workbook are stale, by its book and what is touched
+pub stale_counted : {E : Type 0} (state : State) (book : Book) (touched : Parts) (result : Result ℕ E) → book ≡ state.book → touched ≡ state.touched → IfOk result (λ count. count ≡ count_in book (is_stale book touched)) → IfOk result (λ count. count ≡ count_in state.book (stale_of state))
+unfolding stale_of
+stale_counted state book touched (Ok count) e t is = is ∙ (λ i. count_in (e i) (is_stale (e i) (t i)))
+stale_counted state book touched (Err fault) e t is = tt

@@ -1,6 +1,6 @@
 -- Some cells of all sheets: every one, or some single cells, the cells of some areas, and those whose formulas use some
 -- names.
-use Rattle.std.specs.Prelude.{ℕ, ◌||◌, Bool, false, List}
+use Rattle.std.specs.Prelude.{ℕ, ◌&&◌, ◌||◌, Bool, false, List}
 use Rattle.std.specs.List.{list_any}
 use Rattle.std.specs.Ordering.{eq_by_cmp}
 use Rattle.std.specs.Str.{str_to_ascii_uppercase}
@@ -9,6 +9,7 @@ use Rattle.calc_model.specs.declared.content.Content.{Content}
 use Rattle.calc_model.specs.declared.content.Content.TheVariants.{Formula}
 use Rattle.calc_model.specs.Books.{Book, content_at}
 use Rattle.calc_model.specs.NamedAreas.{name_cmp}
+use Rattle.calc_model.specs.Stale.{is_formula_cell, reaches}
 use Rattle.calc_model.specs.Touched.{CellSet}
 use Rattle.calc_model.specs.UsedNames.{names_in}
 
@@ -39,3 +40,7 @@ uses_any names _ = false
 -- it has the cell of the book
 abbrev pub is_touched : Book → Parts → CellSet
 is_touched book parts q = lies_in parts q || uses_any parts.names (content_at book q)
+
+-- the formula is touched, or reaches a touched cell by reading
+abbrev pub is_stale : Book → Parts → CellSet
+is_stale book parts q = is_formula_cell book q && reaches book (is_touched book parts) q

@@ -1,6 +1,6 @@
 -- A workbook: its book, whether the hub of what its formulas read is spent, the stored results of its formulas, the cells
 -- that edits touched since the last recalculation, and whether it is dead. A formula that reaches a touched cell is stale.
-use Rattle.std.specs.Prelude.{◌≡◌, ◌&&◌, not, Bool, true, false, ⊤, Ok, Err}
+use Rattle.std.specs.Prelude.{◌≡◌, not, Bool, true, false, ⊤, Ok, Err}
 use Rattle.calc_addr.specs.Places.{Place}
 use Rattle.calc_model.specs.declared.edit.Edit.{Edit}
 use Rattle.calc_model.specs.declared.edit.Edit.TheVariants.{Set, Clear, InsertRows, DeleteRows}
@@ -9,11 +9,11 @@ use Rattle.calc_model.specs.Books.{Book, IsBook}
 use Rattle.calc_model.specs.Results.{shown_by}
 use Rattle.calc_model.specs.Scalars.{CellValues}
 use Rattle.calc_model.specs.Step.{step}
-use Rattle.calc_model.specs.Stale.{is_formula_cell, reaches, stale_after}
+use Rattle.calc_model.specs.Stale.{is_formula_cell, stale_after}
 use Rattle.calc_model.specs.Touched.{CellSet}
 use Rattle.formula_results.specs.Results.{results_of}
 use Rattle.recalc.specs.Recalculation.{AreRight, Stored}
-use Rattle.workbook.specs.Touched.{Parts, is_touched}
+use Rattle.workbook.specs.Touched.{Parts, is_stale}
 
 pub record State : Type 0 where
   pub book : Book
@@ -28,7 +28,7 @@ mended state = record state { spent = false }
 
 -- the formulas that are stale
 unfoldable pub stale_of : State → CellSet
-stale_of state q = is_formula_cell state.book q && reaches state.book (is_touched state.book state.touched) q
+stale_of state q = is_stale state.book state.touched q
 
 -- what cells show by the results
 unfoldable pub values_of : State → CellValues

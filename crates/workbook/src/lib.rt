@@ -11,4 +11,4 @@ mod touched;
 mod workbook;
 
 pub use fault::EditFault;
-pub use workbook::{Recalculated, Workbook};
+pub use workbook::Workbook;

@@ -1,12 +1,14 @@
 //! Which formulas are stale: those that are touched or reach a touched cell by reading.
-ghost use Rattle.std.specs.Prelude.{◌≡◌, ◌&&◌, ◌||◌, false, true, IfOk, OnOk};
+ghost use Rattle.std.specs.Prelude.{◌≡◌, ◌≤◌, ◌&&◌, ◌||◌, false, true, IfOk, OnOk};
 ghost use Rattle.std.specs.List.{AllPairs, list_any};
 ghost use Rattle.std.specs.Ordering.{eq_by_cmp};
 ghost use Rattle.calc_addr.specs.Places.{IsBefore, Place, covers, place_cmp};
 ghost use Rattle.calc_model.specs.Books.{content_at};
-ghost use Rattle.calc_model.specs.Stale.{is_formula_cell, reaches};
+ghost use Rattle.calc_model.specs.Stale.{count_in, is_formula_cell};
 ghost use Rattle.dirty_spread.specs.Waves.{has};
-ghost use Rattle.workbook.specs.Touched.{is_touched, uses_any};
+ghost use Rattle.formula_listeners.specs.Held.{HoldsReads};
+ghost use Rattle.listener_hub.specs.Hubs.{areas_read};
+ghost use Rattle.workbook.specs.Touched.{is_stale, is_touched, uses_any};
 
 use crate::names::NameSet;
 use crate::touched::{Touched, area_of};
@@ -14,30 +16,52 @@ use book_parts::BookParts;
 use calc_addr::{Area, Cell, NoMemory};
 use cell_runs::CellRuns;
 use dirty_spread::spread;
-use linked_book::LinkedBook;
+use listener_hub::Hub;
 use std::alloc::Global;
 
 /// The formulas of a book that are touched or reach a touched cell by reading, in the order of cells. It
 /// asks the hub for the readers of each stale cell, in whole runs where they read alike, and is linear in
-/// the groups of the book. Where names are touched it goes over all formulas.
+/// the groups of the book. Where names are touched it goes over all formulas. `workers` is how many threads
+/// may search.
 pub(crate) fn stale_cells(
     alloc: Global,
-    book: &LinkedBook,
+    workers: u32,
+    parts: &BookParts,
+    hub: &Hub,
     touched: &Touched,
 ) -> Result<CellRuns, NoMemory>
-    requires { book.now.spent ≡ false }
+    requires holds { HoldsReads (areas_read hub.now) parts.now }
+    requires ready { hub.now.spent ≡ false }
+    requires some { 1 ≤ workers }
+    requires few { workers ≤ 64 }
     ensures in_order { IfOk result (λ cells. AllPairs IsBefore cells) }
     ensures cells { IfOk result (λ cells. (q : Place) → has cells q
-        ≡ (is_formula_cell book.now.book q
-        && reaches book.now.book (is_touched book.now.book touched.now) q)) }
+        ≡ is_stale parts.now touched.now q) }
 {
-    book.parts().are_book();
-    let formulas = book.parts().formula_cells(alloc)?;
+    parts.are_book();
+    let formulas = parts.formula_cells(alloc)?;
     if touched.is_all() {
         return Ok(formulas);
     }
-    let areas = touched_areas(alloc, book.parts(), &formulas, touched)?;
-    spread(alloc, 1, &areas, &formulas, book.hub())
+    let areas = touched_areas(alloc, parts, &formulas, touched)?;
+    spread(alloc, workers, &areas, &formulas, hub)
+}
+
+/// How many formulas of a book are touched or reach a touched cell by reading.
+pub(crate) fn count_stale(
+    alloc: Global,
+    parts: &BookParts,
+    hub: &Hub,
+    touched: &Touched,
+) -> Result<usize, NoMemory>
+    requires holds { HoldsReads (areas_read hub.now) parts.now }
+    requires ready { hub.now.spent ≡ false }
+    ensures { IfOk result (λ count. count
+        ≡ count_in parts.now (is_stale parts.now touched.now)) }
+{
+    parts.are_book();
+    let stale = stale_cells(alloc, 1, parts, hub, touched)?;
+    Ok(stale.len())
 }
 
 /// Areas of the touched cells, where these aren't all.

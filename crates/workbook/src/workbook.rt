@@ -13,23 +13,27 @@ ghost use Rattle.formula_listeners.specs.Held.{HoldsReads};
 ghost use Rattle.cell_columns.specs.Looks.{AreSlotsOf};
 ghost use Rattle.cell_columns.specs.ColumnRuns.{AllLie, IsSheetColumn, blocks_in, groups_in, rows_of_block, rows_of_group, rows_of_run};
 ghost use Rattle.calc_model.specs.declared.edit.EditCause.{EditCause};
+ghost use Rattle.recalc.specs.Evaluating.{CanFork, Spends};
+ghost use Rattle.recalc.specs.Units.{StaleUnits};
 ghost use Rattle.workbook.specs.Workbook.{AfterNoMemory, IsDead, IsFresh, IsRefused, Made, WasBook, mended, stale_of, values_of};
 
 use crate::fault::EditFault;
-use crate::stale::stale_cells;
+use crate::stale::{count_stale, stale_cells};
 use crate::touched::Touched;
 use block_column::{Block, BlockColumn};
 use book_parts::BookParts;
 use calc_addr::{Area, Cell, NoMemory};
-use calc_model::{Content, Edit, EditCause, MOST_CELLS, Seen};
+use calc_io::Gate;
+use calc_model::{Content, Edit, EditCause, MOST_CELLS, Seen, Steps};
 use formula_groups::Group;
 use formula_printer::print_content;
 use formula_results::{ShownCells, shown};
 use linked_book::LinkedBook;
 use listener_hub::Hub;
-use recalc::StoredResults;
+use recalc::{Recalculated, StoredResults};
 use std::alloc::Global;
 use std::marker::Model;
+use std::sync::ledger::Ledger;
 
 /// The parts of a book with its hub, the stored results of its formulas, what edits touched since the last
 /// recalculation, and whether it is dead. Contracts see the book, whether the hub is spent, and the other
@@ -41,13 +45,6 @@ pub struct Workbook {
     results: StoredResults,
     pub(crate) touched: Touched,
     dead: bool,
-}
-
-/// What a recalculation did.
-#[derive(Clone, Copy, Debug, PartialEq, Eq)]
-pub struct Recalculated {
-    /// How many formulas were stale.
-    pub stale: usize,
 }
 
 impl Model for Workbook {
@@ -278,23 +275,42 @@ impl Workbook {
         EditFault::NoMemory
     }
 
-    /// How many formulas are stale. It asks the hub which ones, as a recalculation does.
+    /// How many formulas are stale. It asks the hub which ones, as a recalculation does, and one made for
+    /// this where the hub is spent.
     pub fn stale_count(&self, alloc: Global) -> Result<usize, NoMemory>
-        requires { self.now.spent ≡ false }
         ensures { IfOk result (λ count. count ≡ count_in self.now.book (stale_of self.now)) }
     {
-        self.book.parts().are_book();
-        let stale = stale_cells(alloc, &self.book, &self.touched)?;
-        Ok(stale.len())
+        let (parts, hub) = (self.book.parts(), self.book.hub());
+        if hub.is_spent() {
+            let made = self.book.new_hub(alloc)?;
+            return count_stale(alloc, parts, &made, &self.touched);
+        }
+        count_stale(alloc, parts, hub, &self.touched)
     }
 
     /// Calculates the stale formulas again, over the results of the others. None is stale afterwards, and
-    /// every cell has its value. Each stale formula is evaluated once, after those that it reads. Where
-    /// memory is refused, the same formulas are stale, and the others keep their results.
-    pub fn recalculate(&mut self, alloc: Global) -> Result<Recalculated, NoMemory>
-        requires { IsFresh self.old }
+    /// every cell has its value. Each stale formula is evaluated once, after those that it reads, unit after
+    /// unit; each unit enters the gate with its number in its wave. Where memory is refused, the same
+    /// formulas are stale, and the others keep their results. `workers` is how many threads may search and
+    /// calculate; so far the calling one works alone.
+    pub fn recalculate<G: Gate + Sync, L: Ledger>(
+        &mut self,
+        alloc: Global,
+        workers: u32,
+        gate: &G,
+        steps: &mut Steps<L>,
+    ) -> Result<Recalculated, NoMemory>
+        requires some { 1 ≤ workers }
+        requires few { workers ≤ 64 }
+        requires fresh { IsFresh self.old }
+        requires room { CanFork steps.old }
         ensures count { IfOk result (λ done.
             done.stale ≡ count_in self.old.book (stale_of self.old)) }
+        ensures units { IfOk result (λ done.
+            StaleUnits self.old.book (stale_of self.old) done.units) }
+        ensures steps { OnOk result (Spends steps.old steps.new
+            (count_in self.old.book (stale_of self.old))) }
+        ensures parts { steps.new.parts ≡ steps.old.parts }
         ensures values { OnOk result ((q : Place) → values_of self.new q ≡ val self.new.book q) }
         ensures stale { OnOk result ((q : Place) → stale_of self.new q ≡ false) }
         ensures kept { OnErr result ((q : Place) → stale_of self.new q ≡ stale_of self.old q) }
@@ -302,14 +318,17 @@ impl Workbook {
         ensures book { self.new.book ≡ self.old.book }
         ensures alive { self.new.dead ≡ self.old.dead }
         ensures ready { OnOk result (self.new.spent ≡ false) }
+        ensures hub { self.old.spent ≡ false → self.new.spent ≡ false }
     {
         self.book.mend(alloc)?;
         self.book.parts().are_book();
-        let stale = stale_cells(alloc, &self.book, &self.touched)?;
-        self.results
-            .recalculate(alloc, self.book.parts(), self.book.hub(), &stale)?;
+        let (parts, hub) = (self.book.parts(), self.book.hub());
+        let stale = stale_cells(alloc, workers, parts, hub, &self.touched)?;
+        let done = self
+            .results
+            .recalculate(alloc, workers, parts, hub, &stale, gate, steps)?;
         self.touched = Touched::none(alloc);
-        Ok(Recalculated { stale: stale.len() })
+        Ok(done)
     }
 
     /// What the cell shows. It takes the logarithm of the cells.

@@ -1,13 +1,7 @@
 -- The order of cells is a total order, and how it goes on in a column and in a sheet.
 use Rattle.std.proofs.Common.{ℕ, ◌<◌, arith}
-use Rattle.std.specs.Cmp.{IsTotalOrder}
 use Rattle.std.proofs.lemmas.Bool.Decides.{nat_tests}
-use Rattle.std.proofs.lemmas.Cmp.{nat_cmp_total, on_total, then_total}
-use Rattle.calc_addr.specs.Places.{Place, place_cmp, IsBefore}
-
-pub place_cmp_total : IsTotalOrder place_cmp
-place_cmp_total =
-    then_total (on_total (λ (p : Place). p.sheet) nat_cmp_total) (then_total (on_total (λ (p : Place). p.col) nat_cmp_total) (on_total (λ (p : Place). p.row) nat_cmp_total))
+use Rattle.calc_addr.specs.Places.{IsBefore}
 
 -- in one column the lower row comes later
 pub before_in_column : (sheet col row later : ℕ) → row < later → IsBefore (record { sheet = sheet; col = col; row = row }) (record { sheet = sheet; col = col; row = later })

@@ -9,7 +9,7 @@ use Rattle.calc_book.proofs.contents.read_contents.Goals as goal
 
 pub returns : goal.returns
 returns g c =
-    let slice = ap (λ it. it.slice.now) c.map.ensures.base ∙ c.par_iter.ensures in
+    let slice = ap (λ it. it.base.slice.now) c.map.ensures.base ∙ ap (λ it. it.slice.now) c.with_min_len.ensures.base ∙ c.par_iter.ensures in
     let done = c.in_ok-collect.ensures in
     let chain = done.1 in
     read_in_all (λ row. map field_of (fields_of row)) (λ contents. contents.items) (λ all. all.items) c.in_ok-collect.field-0 c.args.rows.now done.0

@@ -8,7 +8,7 @@ use Rattle.recalc.proofs.Adding.{evaluated_one}
 use Rattle.recalc.proofs.evaluating.evaluate_cell.Goals as goal
 
 pub returns-clause-done : goal.returns-clause-done
-returns-clause-done c =
+returns-clause-done g c =
     let book = c.args.parts.now in
     let old = results_of c.args.results.now in
     let cell = c.args.cell in
