@@ -25,18 +25,18 @@ use Rattle.value_column.specs.Sheets.{row_value, IsEdited, IsSet, ShowsSame, cel
 use Rattle.value_column.specs.ValueRows.{ValueRows, no_values}
 use Rattle.formula_results.specs.Results.{Clears, SameResults, result_of, results_of}
 
-true_not_false : (b : Bool) → b ≡ true → b ≡ false → ⊥
+pub true_not_false : (b : Bool) → b ≡ true → b ≡ false → ⊥
 true_not_false true h k = cc
 true_not_false false h k = cc
 
-nat_eq_or : (m n : ℕ) → (m ≡ n) ⊎ (m ≢ n)
+pub nat_eq_or : (m n : ℕ) → (m ≡ n) ⊎ (m ≢ n)
 nat_eq_or m n = elim (m == n) as (λ b. (m == n) ≡ b → (m ≡ n) ⊎ (m ≢ n)) [
   | true ↦ λ e. inl (grind (arith, nat_tests))
   | false ↦ λ e. inr (λ is. true_not_false (m == n) (grind (arith, nat_tests)) e)
 ] refl
 
 -- what a row of a column shows, by the list of its rows
-abbrev row_in : Option (List Value) → ℕ → Value
+abbrev pub row_in : Option (List Value) → ℕ → Value
 row_in o row = get_or (unwrap_or o no_values) (row - 1) value.Blank
 
 -- a value that isn't blank is a result
@@ -55,7 +55,7 @@ none_either_way : (o : Option Value) (b : Bool) → o ≡ None → cond b o None
 none_either_way o true e = refl
 none_either_way o false e = sym e
 
-not_below : (m n : ℕ) → (n ≤ m → ⊥) → m < n
+pub not_below : (m n : ℕ) → (n ≤ m → ⊥) → m < n
 not_below m n h = elim (nat_lt m n) as (λ b. nat_lt m n ≡ b → m < n) [
   | true ↦ λ e. grind (arith, nat_tests)
   | false ↦ λ e. absurd (h (grind (arith, nat_tests)))
@@ -80,7 +80,7 @@ same_results old new same q =
     ap (λ v. cond (is_place q) (result_of v) None) (cell_row new q ∙ ap (λ o. row_in o q.row) (same (column_place q.sheet q.col)) ∙ sym (cell_row old q))
 
 -- places of columns are apart where the columns are
-column_of_place : (s t c d : ℕ) → 1 ≤ c → c ≤ 1024 → 1 ≤ d → d ≤ 1024 → s * 1024 + (c - 1) ≡ t * 1024 + (d - 1) → (s ≡ t) × (c ≡ d)
+pub column_of_place : (s t c d : ℕ) → 1 ≤ c → c ≤ 1024 → 1 ≤ d → d ≤ 1024 → s * 1024 + (c - 1) ≡ t * 1024 + (d - 1) → (s ≡ t) × (c ≡ d)
 column_of_place s t c d c1 c2 d1 d2 e = (omega (arith, c1, c2, d1, d2, e), omega (arith, c1, c2, d1, d2, e))
 
 same_tied : (p q : Place) → p ≡ q → eq_by_cmp place_cmp p q ≡ true
@@ -157,17 +157,30 @@ kept_out (x ∷ s) (suc a) (suc b) n zero e h out = refl
 kept_out (x ∷ s) (suc a) (suc b) n (suc j) e h out = kept_out s a b n j (omega (arith, e)) (omega (arith, h)) (λ from. omega (arith, out (omega (arith, from))))
 
 -- what it is to be in a run
-record IsInRun (run : Rows) (q : Place) : Type 0 where
-  sheet : q.sheet ≡ run.sheet
-  col : q.col ≡ run.col
-  from : run.first ≤ q.row
-  to : q.row ≤ run.last
+pub record IsInRun (run : Rows) (q : Place) : Type 0 where
+  pub sheet : q.sheet ≡ run.sheet
+  pub col : q.col ≡ run.col
+  pub from : run.first ≤ q.row
+  pub to : q.row ≤ run.last
 
-in_run : (run : Rows) (q : Place) → is_in q run ≡ true → IsInRun run q
+pub in_run : (run : Rows) (q : Place) → is_in q run ≡ true → IsInRun run q
 in_run run q h = record { sheet = grind (arith, nat_tests); col = grind (arith, nat_tests); from = grind (arith, nat_tests); to = grind (arith, nat_tests) }
 
-in_run_so : (run : Rows) (q : Place) → IsInRun run q → is_in q run ≡ true
+pub in_run_so : (run : Rows) (q : Place) → IsInRun run q → is_in q run ≡ true
 in_run_so run q h = grind (arith, nat_tests, h.sheet, h.col, h.from, h.to)
+
+-- where a run's column shows in its other rows what it did, so do all other cells
+pub kept_beside : (old new : List (Option ValueRows)) (run : Rows) → IsRows run → ((row : ℕ) → 1 ≤ row → (run.first ≤ row → run.last < row) → row_in (shown_at new (column_place run.sheet run.col)) row ≡ row_in (shown_at old (column_place run.sheet run.col)) row) → ((p : ℕ) → p ≢ column_place run.sheet run.col → get_or new p None ≡ get_or old p None) → (q : Place) → IsPlace q → (IsInRun run q → ⊥) → cell_values new q ≡ cell_values old q
+kept_beside old new run rows kept others q at apart =
+    elim (nat_eq_or (column_place q.sheet q.col) (column_place run.sheet run.col)) [
+      | inl same ↦
+          let column = column_of_place q.sheet run.sheet q.col run.col at.col_from at.col_to rows.col_from rows.col_to same in
+          cell_row new q
+          ∙ ap (λ p. row_in (shown_at new p) q.row) same
+          ∙ kept q.row at.row_from (λ from. not_below run.last q.row (λ to. apart (record { sheet = column.0; col = column.1; from = from; to = to })))
+          ∙ sym (cell_row old q ∙ ap (λ p. row_in (shown_at old p) q.row) same)
+      | inr other ↦ cell_row new q ∙ ap (λ c. row_in (option_map (λ c. c.values) c) q.row) (others (column_place q.sheet q.col) other) ∙ sym (cell_row old q)
+    ]
 
 module _ (old new : List (Option ValueRows)) (run : Rows) where
   abbrev start : ℕ
@@ -199,15 +212,9 @@ module _ (old new : List (Option ValueRows)) (run : Rows) where
     in_it q is = cell_now q (ap (λ s. column_place s q.col) is.sheet ∙ ap (λ c. column_place run.sheet c) is.col) ∙ blank_here (shown_at old start) q.row refl is.from is.to
 
     outside : (q : Place) → IsPlace q → (IsInRun run q → ⊥) → cell_values new q ≡ cell_values old q
-    outside q at apart =
-        elim (nat_eq_or (column_place q.sheet q.col) start) [
-          | inl same ↦
-              let column = column_of_place q.sheet run.sheet q.col run.col at.col_from at.col_to rows.col_from rows.col_to same in
-              cell_now q same
-              ∙ kept_here (shown_at old start) q.row refl at.row_from (λ from. not_below run.last q.row (λ to. apart (record { sheet = column.0; col = column.1; from = from; to = to })))
-              ∙ sym (cell_row old q ∙ ap (λ p. row_in (shown_at old p) q.row) same)
-          | inr other ↦ cell_row new q ∙ ap (λ c. row_in (option_map (λ c. c.values) c) q.row) (edited.others (column_place q.sheet q.col) other) ∙ sym (cell_row old q)
-        ]
+    outside =
+        kept_beside old new run rows
+        (λ row some out. ap (λ o. row_in o row) edited.here ∙ kept_here (shown_at old start) row refl some out) edited.others
 
     pub clear_results : Clears (results_of old) (results_of new) run
     unfolding results_of

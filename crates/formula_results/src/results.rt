@@ -1,9 +1,10 @@
-ghost use Rattle.std.specs.Prelude.{◌≡◌, None, true, IfSome, IfNone, OnOk, OnErr};
+ghost use Rattle.std.specs.Prelude.{◌≡◌, ◌+◌, ◌-◌, None, true, IfSome, IfNone, OnOk, OnErr, vec_len};
+ghost use Rattle.std.specs.List.{All};
 ghost use Rattle.calc_addr.specs.Places.{Place};
 ghost use Rattle.calc_model.specs.Results.{Sets};
 ghost use Rattle.calc_model.specs.UsedCells.{is_used};
 ghost use Rattle.calc_model.specs.ValueTexts.{lent};
-ghost use Rattle.formula_results.specs.Results.{Clears, SameResults, results_of};
+ghost use Rattle.formula_results.specs.Results.{Clears, SameResults, SetsRun, results_of};
 
 use calc_addr::{Cell, NoMemory, Run};
 use calc_model::{Seen, Value, Values};
@@ -57,6 +58,19 @@ impl FormulaResults {
     {
         let _ = &cell.row;
         self.values.set(cell, value)
+    }
+
+    /// Gives the cells of a run those results, the first row's first, of which none is blank. It is linear in
+    /// these. Where memory is refused, the results are as before.
+    pub fn set_run(&mut self, run: Run, values: Vec<Value>) -> Result<(), NoMemory>
+        requires length { vec_len values ≡ run.last + 1 - run.first }
+        requires used { All (λ v. is_used v ≡ true) values.items }
+        ensures ok { OnOk result
+            (SetsRun (results_of self.old) (results_of self.new) run values.items) }
+        ensures err { OnErr result (SameResults (results_of self.old) (results_of self.new)) }
+    {
+        let _ = &run.first;
+        self.values.set_run(run, values)
     }
 
     /// Takes the results of a run's cells away. Where memory is refused, the results are as before.

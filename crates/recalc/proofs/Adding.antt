@@ -30,22 +30,12 @@ alike true b to from = sym (to refl)
 alike false true to from = from refl
 alike false false to from = refl
 
--- the cell alone
-abbrev pub only : Place → CellSet
-only cell = eq_by_cmp place_cmp cell
-
 module _ (book : Book) where
-  known_with : (new : Results) (q : Place) (value : Value) → new q ≡ Some value → is_known book new q ≡ true
+  pub known_with : (new : Results) (q : Place) (value : Value) → new q ≡ Some value → is_known book new q ≡ true
   known_with new q value is = ap (λ o. not (is_formula (content_at book q)) || is_some o) is ∙ or_true (not (is_formula (content_at book q)))
 
   pub known_kept : (old new : Results) (q : Place) → new q ≡ old q → is_known book new q ≡ is_known book old q
   known_kept old new q same = ap (λ o. not (is_formula (content_at book q)) || is_some o) same
-
-  pub evaluated_one : (old new : Results) (cell : Place) (tree : Tree) → content_at book cell ≡ Formula tree → IsSound book old → is_ready book old cell ≡ true → Sets old new cell (top (eval cell (area_named book) (shown_by book old) tree)) → AreEvaluated book new (only cell)
-  evaluated_one old new cell tree at sound ready sets = record {
-    sound = sound_with book old sound new cell tree at ready sets;
-    known = λ q tied. known_with new q (top (eval cell (area_named book) (shown_by book old) tree)) (sets q ∙ ap (λ b. cond b (Some (top (eval cell (area_named book) (shown_by book old) tree))) (old q)) tied);
-  }
 
   -- what was known stays so
   pub stays_known : (old new : Results) (cells : CellSet) → KeepsOthers cells old new → ((q : Place) → cells q ≡ true → is_known book new q ≡ true) → (q : Place) → is_known book old q ≡ true → is_known book new q ≡ true
@@ -101,60 +91,6 @@ module _ (book : Book) where
   pub ready_on_way : (first now : Results) (done cells part : CellSet) → IsOnWay first now done → AreReady book first cells → ((q : Place) → part q ≡ true → cells q ≡ true) → AreReady book now part
   ready_on_way first now done cells part way ready inside =
       ready_part now cells part (stays_ready book first now cells done way.left way.evaluated.known ready) inside
-
--- the rows of a run before one
-abbrev pub front : Rows → ℕ → CellSet
-front run row q = is_in q run && nat_lt q.row row
-
-abbrev pub row_of : Rows → ℕ → Place
-row_of run row = record { sheet = run.sheet; col = run.col; row = row }
-
-pub no_front : (run : Rows) (q : Place) → front run run.first q ≡ false
-no_front run q = cases_so (front run run.first q) (λ h. grind (arith, nat_tests))
-  where
-    cases_so : (b : Bool) → (b ≡ true → b ≡ false) → b ≡ false
-    cases_so true f = f refl
-    cases_so false f = refl
-
-pub whole_front : (run : Rows) (row : ℕ) (q : Place) → run.last < row → is_in q run ≡ front run row q
-whole_front run row q h = alike (is_in q run) (front run row q) (λ e. grind (arith, nat_tests)) (λ e. grind (arith, nat_tests))
-
-pub only_is : (run : Rows) (row : ℕ) (q : Place) → only (row_of run row) q ≡ true → q ≡ row_of run row
-only_is run row q h = sym (same_places (row_of run row) q h)
-
-pub row_inside : (run : Rows) (row : ℕ) → run.first ≤ row → row ≤ run.last → is_in (row_of run row) run ≡ true
-row_inside run row from to = grind (arith, nat_tests)
-
-pub only_inside : (run : Rows) (row : ℕ) → run.first ≤ row → row ≤ run.last → (q : Place) → only (row_of run row) q ≡ true → is_in q run ≡ true
-only_inside run row from to q h = subst (λ (p : Place). is_in p run ≡ true) (sym (only_is run row q h)) (row_inside run row from to)
-
-pub next_front : (run : Rows) (row : ℕ) (q : Place) → run.first ≤ row → row ≤ run.last → front run (row + 1) q ≡ (front run row q || only (row_of run row) q)
-next_front run row q from to = alike (front run (row + 1) q) (front run row q || only (row_of run row) q) there back
-  where
-    same_cells : (p q : Place) → p.sheet ≡ q.sheet → p.col ≡ q.col → p.row ≡ q.row → p ≡ q
-    same_cells p q s c r = ap (λ s. record { sheet = s; col = p.col; row = p.row }) s ∙ ap (λ c. record { sheet = q.sheet; col = c; row = p.row }) c ∙ ap (λ r. record { sheet = q.sheet; col = q.col; row = r }) r
-
-    at_row : (q : Place) → is_in q run ≡ true → q.row ≡ row → q ≡ row_of run row
-    at_row q h e =
-        let l = lies run q h in
-        same_cells q (row_of run row) l.sheet l.col e
-
-    there : front run (row + 1) q ≡ true → (front run row q || only (row_of run row) q) ≡ true
-    there h =
-        let parts = both_true (is_in q run) (nat_lt q.row (row + 1)) h in
-        ⊎_elim (λ (e : nat_lt q.row row ≡ true). ap (λ b. b || only (row_of run row) q) (ap (λ b. b && nat_lt q.row row) parts.0 ∙ e))
-        (λ (e : nat_lt q.row row ≡ false).
-        let same : q.row ≡ row = grind (arith, nat_tests) in
-        ap (λ b. front run row q || b) (subst (λ (p : Place). only (row_of run row) p ≡ true) (sym (at_row q parts.0 same)) (same_cell (row_of run row))) ∙ or_true (front run row q))
-        (cases_Bool (nat_lt q.row row))
-
-    back : (front run row q || only (row_of run row) q) ≡ true → front run (row + 1) q ≡ true
-    back h = ⊎_elim (λ (e : front run row q ≡ true). grind (arith, nat_tests))
-        (λ (e : only (row_of run row) q ≡ true).
-        let inside : is_in q run ≡ true = only_inside run row from to q e in
-        let at : q.row ≡ row = ap (λ (p : Place). p.row) (only_is run row q e) in
-        grind (arith, nat_tests))
-        (or_cases (front run row q) (only (row_of run row) q) h)
 
 part_in_any : (runs : List Rows) (i : ℕ) (q : Place) → is_in_any q (take i runs) ≡ true → is_in_any q runs ≡ true
 part_in_any runs zero q h = absurd (false≢true h)

@@ -18,3 +18,5 @@ pub mod UnitRows
 pub mod UnitForms
 -- the waves of the book
 pub mod UnitWaves
+-- values that come to all cells of a run at once
+pub mod RunValues

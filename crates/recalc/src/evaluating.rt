@@ -1,8 +1,7 @@
 //! Formulas that are evaluated, all that they read being known.
 ghost use Rattle.std.specs.Prelude.{◌≡◌, ◌≤◌, ◌<◌, ◌+◌, ◌-◌, length, true, false, IfOk, OnOk};
-ghost use Rattle.std.specs.Ordering.{eq_by_cmp};
 ghost use Rattle.std.specs.List.{All};
-ghost use Rattle.calc_addr.specs.Places.{IsRows, Place, place_cmp};
+ghost use Rattle.calc_addr.specs.Places.{IsRows, Place};
 ghost use Rattle.calc_model.specs.Results.{IsSound};
 ghost use Rattle.cell_runs.specs.CellLists.{all_cells};
 ghost use Rattle.formula_results.specs.Results.{results_of};
@@ -18,48 +17,24 @@ use crate::value::value_of;
 use book_parts::BookParts;
 use calc_addr::{Cell, NoMemory, Run};
 use calc_io::Gate;
-use calc_model::Steps;
+use calc_model::{CodeId, Steps};
 use cell_columns::{Coded, CodedGroups};
 use formula_code::{CodeTable, forms_are_trees};
 use formula_results::FormulaResults;
 use std::alloc::Global;
 use std::sync::ledger::Ledger;
 
-/// Evaluates the formula of a cell, by its code.
-fn evaluate_cell<L: Ledger>(
-    alloc: Global,
-    parts: &BookParts,
-    formula: Coded<'_>,
-    cell: Cell,
-    results: &mut FormulaResults,
-    steps: &mut Steps<L>,
-) -> Result<(), NoMemory>
-    requires coded { IsCodedIn parts.now cell formula.codes.now formula.id }
-    requires sound { IsSound parts.now (results_of results.old) }
-    requires ready { AreReady parts.now (results_of results.old) (eq_by_cmp place_cmp cell) }
-    requires room { HasRoomFor steps.old 1 }
-    ensures done { OnOk result
-        (AreEvaluated parts.now (results_of results.new) (eq_by_cmp place_cmp cell)) }
-    ensures others { KeepsOthers (eq_by_cmp place_cmp cell)
-        (results_of results.old) (results_of results.new) }
-    ensures steps { OnOk result (Spends steps.old steps.new 1) }
-    ensures parts { steps.new.parts ≡ steps.old.parts }
-{
-    let value = value_of(alloc, parts, results, cell, formula, steps)?;
-    results.set(cell, value)
-}
-
-/// Evaluates the formulas of a run, which have one code.
+/// Evaluates the formulas of a run, which have one code. Their results go to their column at once.
 fn evaluate_run<L: Ledger>(
     alloc: Global,
     parts: &BookParts,
-    formula: Coded<'_>,
+    codes: &CodeTable,
+    code: CodeId,
     run: Run,
     results: &mut FormulaResults,
     steps: &mut Steps<L>,
 ) -> Result<(), NoMemory>
-    requires coded { (q : Place) → is_in q run ≡ true
-        → IsCodedIn parts.now q formula.codes.now formula.id }
+    requires coded { (q : Place) → is_in q run ≡ true → IsCodedIn parts.now q codes.now code }
     requires sound { IsSound parts.now (results_of results.old) }
     requires ready { AreReady parts.now (results_of results.old) (λ q. is_in q run) }
     requires room { HasRoomFor steps.old (run.last + 1 - run.first) }
@@ -76,11 +51,14 @@ fn evaluate_run<L: Ledger>(
         first,
         last,
     } = run;
+    let mut values = Vec::new(alloc);
     for row in first..last + 1 {
-        let cell = Cell { sheet, col, row };
-        evaluate_cell(alloc, parts, formula, cell, results, steps)?;
+        let home = Cell { sheet, col, row };
+        let formula = Coded { codes, id: code };
+        let value = value_of(alloc, parts, results, home, formula, steps)?;
+        values.push(value)?;
     }
-    Ok(())
+    results.set_run(run, values)
 }
 
 /// Evaluates the formulas of units, of which none reads one of another, and gives how many units they are.
@@ -113,8 +91,7 @@ fn evaluate_units<G: Gate, L: Ledger>(
         gate.enter(number as u64);
         let unit = units[number];
         let run = rows_of(&unit);
-        let formula = Coded { codes, id: unit.code };
-        evaluate_run(alloc, parts, formula, run, results, steps)?;
+        evaluate_run(alloc, parts, codes, unit.code, run, results, steps)?;
     }
     Ok(units.len() as u64)
 }

@@ -91,6 +91,7 @@ impl ValueColumn {
         requires { IsRun first (vec_len values) }
         ensures ok { OnOk result (self.new.values
             ≡ run_set (first - 1) values.items self.old.values) }
+        ensures rows { length self.old.values ≡ LAST_ROW }
         ensures err { OnErr result (self.new.values ≡ self.old.values) }
     {
         let alloc = self.alloc;

@@ -122,6 +122,7 @@ fn set_run_rows(
     requires rows { IsRun first (vec_len values) }
     ensures ok { OnOk result (IsSet columns.old.items columns.new.items place
         (run_set (first - 1) values.items (shown_in columns.old.items place))) }
+    ensures rows { OnOk result (length (shown_in columns.old.items place) ≡ LAST_ROW) }
     ensures err { OnErr result (ShowsSame columns.old.items columns.new.items) }
 {
     reach(columns, place)?;
@@ -205,6 +206,8 @@ impl ValueSheets {
         ensures ok { OnOk result (IsSet self.old self.new (column_place run.sheet run.col)
             (run_set (run.first - 1) values.items
             (shown_in self.old (column_place run.sheet run.col)))) }
+        ensures rows { OnOk result
+            (length (shown_in self.old (column_place run.sheet run.col)) ≡ LAST_ROW) }
         ensures err { OnErr result (ShowsSame self.old self.new) }
     {
         let alloc = self.alloc;

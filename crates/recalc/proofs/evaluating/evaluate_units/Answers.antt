@@ -9,7 +9,12 @@ use Rattle.dirty_spread.specs.Marking.{is_in_any}
 use Rattle.recalc.specs.CodedUnits.{all_rows_of}
 use Rattle.recalc.proofs.Adding.{item_in_any, kept_then, none_in_part, on_way_more, ready_on_way}
 use Rattle.recalc.proofs.UnitLists.{rows_item}
+use Rattle.recalc.proofs.UnitForms.{unit_coded}
 use Rattle.recalc.proofs.evaluating.evaluate_units.Goals as goal
+
+pub evaluate_run-requires-clause-coded : goal.evaluate_run-requires-clause-coded
+evaluate_run-requires-clause-coded g c = λ q h.
+    unit_coded c.args.parts.now c.args.codes.now c.args.units.now c.requires.coded c.loop-number.number c.index-units-number.result c.rows_of-run.result c.loop-number-test.true c.index-units-number.is c.rows_of-run.ensures q h
 
 pub evaluate_run-requires-clause-ready : goal.evaluate_run-requires-clause-ready
 evaluate_run-requires-clause-ready g c =

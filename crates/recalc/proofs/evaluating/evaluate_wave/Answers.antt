@@ -1,20 +1,27 @@
 use Rattle.std.proofs.Common.{◌≡◌, length, sym, subst, ap, ◌∙◌}
 use Rattle.std.proofs.lemmas.List.{length-map}
 use Rattle.std.proofs.lemmas.Result.{IfOk-weaker}
+use Rattle.std.specs.List.{All}
 use Rattle.cell_runs.specs.CellLists.{all_cells}
 use Rattle.dirty_spread.specs.Marking.{is_in_any}
 use Rattle.dirty_spread.proofs.Cells.{on_ok}
 use Rattle.formula_groups.specs.GroupRows.{columns_of}
 use Rattle.formula_results.specs.Results.{results_of}
-use Rattle.recalc.specs.CodedUnits.{AreCodedUnits, all_rows_of, rows_of}
+use Rattle.recalc.specs.CodedUnits.{AreCodedUnits, IsCodedUnit, all_rows_of, rows_of}
 use Rattle.recalc.specs.Units.{HasUnits}
 use Rattle.recalc.proofs.Adding.{as_evaluated, as_ready}
 use Rattle.recalc.proofs.Listed.{same_runs}
-use Rattle.recalc.proofs.UnitForms.{are_units, has_code}
+use Rattle.recalc.proofs.UnitForms.{are_coded, are_units, has_code}
 use Rattle.recalc.proofs.evaluating.evaluate_wave.Goals as goal
 
 pub find_units-requires-clause-coded : goal.find_units-requires-clause-coded
 find_units-requires-clause-coded g c = λ q is h. has_code c.coded.result.codes.now (columns_of c.coded.result.groups.now) c.args.parts.now c.coded.ensures.formulas q is (c.requires.ready.formula q h)
+
+pub evaluate_units-requires-clause-coded : goal.evaluate_units-requires-clause-coded
+evaluate_units-requires-clause-coded g c =
+    let columns = columns_of c.coded.result.groups.now in
+    are_coded c.coded.result.codes.now columns c.args.parts.now c.coded.ensures.coded c.coded.ensures.formulas c.deref.result.now
+    (subst (λ us. All (IsCodedUnit columns) us) (sym c.deref.ensures.value) c.in_ok-find_units.ensures.each)
 
 pub evaluate_units-requires-clause-ready : goal.evaluate_units-requires-clause-ready
 evaluate_units-requires-clause-ready g c =
