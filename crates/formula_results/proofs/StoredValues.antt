@@ -1,27 +1,21 @@
--- Stored values by cell: which cells show something else once a row or a run of a column was set.
-use Rattle.std.proofs.Common.{◌≡◌, ◌≢◌, ◌≤◌, ◌<◌, ℕ, zero, suc, ◌+◌, ◌-◌, ◌*◌, ◌&&◌, ◌==◌, nat_le, nat_lt, Bool, true, false, List, [], ◌∷◌, ◌++◌, take, drop, replicate, length, Option, Some, None, cond, refl, sym, ap, subst, ◌∙◌, arith, ◌⊎◌, inl, inr}
+-- Stored values by cell: which cells show something else once the rows of a run were edited.
+use Rattle.std.proofs.Common.{◌≡◌, ◌≢◌, ◌≤◌, ◌<◌, ℕ, zero, suc, ◌+◌, ◌-◌, ◌*◌, ◌==◌, nat_lt, Bool, true, false, List, [], ◌∷◌, ◌++◌, take, drop, replicate, length, Option, Some, None, cond, refl, sym, ap, subst, ◌∙◌, arith, ◌⊎◌, inl, inr}
 use Rattle.std.specs.Prelude.{Result, Ok, Err, OnOk}
 use Rattle.std.specs.Option.{option_map, unwrap_or}
-use Rattle.std.specs.Ordering.{eq_by_cmp}
-use Rattle.std.proofs.lemmas.List.{get_or-set_other, get_or-set_same}
-use Rattle.std.proofs.lemmas.Grind.{common_steps}
 use Rattle.std.proofs.lemmas.Bool.Decides.{nat_tests}
-use Rattle.std.proofs.Math.ListN.{get_or, set}
+use Rattle.std.proofs.Math.ListN.{get_or}
 use Rattle.calc_addr.specs.declared.cell.TheConstants.{LAST_COL, LAST_ROW, LAST_SHEET}
-use Rattle.calc_addr.specs.Places.{IsPlace, IsRows, Place, Rows, place_cmp}
+use Rattle.calc_addr.specs.Places.{IsPlace, IsRows, Place, Rows}
 use Rattle.calc_model.specs.declared.value.Seen.{Seen}
 use Rattle.calc_model.specs.declared.value.Seen.TheVariants as seen
 use Rattle.calc_model.specs.ValueTexts.{lent}
 use Rattle.calc_model.specs.declared.value.Value.{Value}
 use Rattle.calc_model.specs.declared.value.Value.TheVariants as value
 use Rattle.calc_model.specs.Books.{is_place}
-use Rattle.calc_model.specs.Results.{Results, Sets}
 use Rattle.calc_model.specs.UsedCells.{is_used}
-use Rattle.calc_model.proofs.Places.{same_places}
-use Rattle.calc_model.proofs.Reached.{same_cell}
 use Rattle.run_tables.specs.Rows.{rows_set, spliced}
 use Rattle.run_unions.specs.Unions.{is_in}
-use Rattle.value_column.specs.Sheets.{row_value, IsEdited, IsSet, ShowsSame, cell_values, column_place, shown_at, shown_in}
+use Rattle.value_column.specs.Sheets.{row_value, IsEdited, ShowsSame, cell_values, column_place, shown_at, shown_in}
 use Rattle.value_column.specs.ValueRows.{ValueRows, no_values}
 use Rattle.formula_results.specs.Results.{Clears, SameResults, result_of, results_of}
 
@@ -83,54 +77,11 @@ same_results old new same q =
 pub column_of_place : (s t c d : ℕ) → 1 ≤ c → c ≤ 1024 → 1 ≤ d → d ≤ 1024 → s * 1024 + (c - 1) ≡ t * 1024 + (d - 1) → (s ≡ t) × (c ≡ d)
 column_of_place s t c d c1 c2 d1 d2 e = (omega (arith, c1, c2, d1, d2, e), omega (arith, c1, c2, d1, d2, e))
 
-same_tied : (p q : Place) → p ≡ q → eq_by_cmp place_cmp p q ≡ true
-same_tied p q e = subst (λ z. eq_by_cmp place_cmp p z ≡ true) e (same_cell p)
-
-same_place : (p q : Place) → IsPlace p → IsPlace q → column_place p.sheet p.col ≡ column_place q.sheet q.col → p.row - 1 ≡ q.row - 1 → p ≡ q
-same_place p q at is column row =
-    let parts = column_of_place p.sheet q.sheet p.col q.col at.col_from at.col_to is.col_from is.col_to column in
-    let rows : p.row ≡ q.row = omega (arith, row, at.row_from, is.row_from) in
-    ap (λ s. record { sheet = s; col = p.col; row = p.row }) parts.0 ∙ ap (λ c. record { sheet = q.sheet; col = c; row = p.row }) parts.1 ∙ ap (λ r. record { sheet = q.sheet; col = q.col; row = r }) rows
-
 pub is_place_of : (q : Place) → is_place q ≡ true → IsPlace q
 is_place_of q h = record { sheet_in = grind (arith, nat_tests); col_from = grind (arith, nat_tests); col_to = grind (arith, nat_tests); row_from = grind (arith, nat_tests); row_to = grind (arith, nat_tests) }
 
 pub place_is : (q : Place) → IsPlace q → is_place q ≡ true
 place_is q h = grind (arith, nat_tests)
-
-module _ (old new : List (Option ValueRows)) (cell : Place) (v : Value) where
-  abbrev here : ℕ
-  here = column_place cell.sheet cell.col
-
-  abbrev set_old : List Value
-  set_old = set (shown_in old here) (cell.row - 1) v
-
-  other_row : (q : Place) → IsPlace cell → IsPlace q → IsSet old new here set_old → (cell ≡ q → ⊥) → cell_values new q ≡ cell_values old q
-  other_row q at is sets apart =
-      cell_row new q ∙ elim (nat_eq_or (column_place q.sheet q.col) here) [
-        | inl same ↦
-            ap (λ p. row_in (shown_at new p) q.row) same
-            ∙ ap (λ o. row_in o q.row) sets.here
-            ∙ get_or-set_other (shown_in old here) (cell.row - 1) (q.row - 1) v value.Blank (λ row. apart (same_place cell q at is (sym same) (sym row)))
-            ∙ sym (ap (λ p. row_in (shown_at old p) q.row) same)
-        | inr other ↦ ap (λ c. row_in (option_map (λ c. c.values) c) q.row) (sets.others (column_place q.sheet q.col) other)
-      ] ∙ sym (cell_row old q)
-
-  pub set_results : is_place cell ≡ true → is_used v ≡ true → length (shown_in old here) ≡ LAST_ROW → IsSet old new here set_old → Sets (results_of old) (results_of new) cell v
-  unfolding results_of
-  set_results valid used rows sets q =
-      let at = is_place_of cell valid in
-      elim (eq_by_cmp place_cmp cell q) as (λ b. eq_by_cmp place_cmp cell q ≡ b → cond (is_place q) (result_of (cell_values new q)) None ≡ cond b (Some v) (cond (is_place q) (result_of (cell_values old q)) None)) [
-        | true ↦ λ tied.
-            let same : cell ≡ q = same_places cell q tied in
-            let shows : cell_values new cell ≡ v = cell_row new cell ∙ ap (λ o. row_in o cell.row) sets.here ∙ get_or-set_same (shown_in old here) (cell.row - 1) v value.Blank (omega (arith, rows, at.row_from, at.row_to)) in
-            subst (λ z. cond (is_place z) (result_of (cell_values new z)) None ≡ Some v) same
-            (ap (λ b. cond b (result_of (cell_values new cell)) None) valid ∙ ap result_of shows ∙ used_result v used)
-        | false ↦ λ untied. elim (is_place q) as (λ b. is_place q ≡ b → cond b (result_of (cell_values new q)) None ≡ cond b (result_of (cell_values old q)) None) [
-          | true ↦ λ is. ap result_of (other_row q at (is_place_of q is) sets (λ e. true_not_false (eq_by_cmp place_cmp cell q) (same_tied cell q e) untied))
-          | false ↦ λ none. refl
-        ] refl
-      ] refl
 
 -- what a row shows of rows of which some were made blank
 blank_in : (s : List Value) (a b n j : ℕ) → b ≡ a + n → b ≤ length s → a ≤ j → j < b → get_or (spliced a b n value.Blank s) j value.Blank ≡ value.Blank

@@ -1,7 +1,6 @@
 ghost use Rattle.std.specs.Prelude.{◌≡◌, ◌+◌, ◌-◌, None, true, IfSome, IfNone, OnOk, OnErr, vec_len};
 ghost use Rattle.std.specs.List.{All};
 ghost use Rattle.calc_addr.specs.Places.{Place};
-ghost use Rattle.calc_model.specs.Results.{Sets};
 ghost use Rattle.calc_model.specs.UsedCells.{is_used};
 ghost use Rattle.calc_model.specs.ValueTexts.{lent};
 ghost use Rattle.formula_results.specs.Results.{Clears, SameResults, SetsRun, results_of};
@@ -48,16 +47,6 @@ impl FormulaResults {
             Seen::Blank => None,
             seen => Some(seen),
         }
-    }
-
-    /// Gives the cell that result, which isn't blank. Where memory is refused, the results are as before.
-    pub fn set(&mut self, cell: Cell, value: Value) -> Result<(), NoMemory>
-        requires { is_used value ≡ true }
-        ensures ok { OnOk result (Sets (results_of self.old) (results_of self.new) cell value) }
-        ensures err { OnErr result (SameResults (results_of self.old) (results_of self.new)) }
-    {
-        let _ = &cell.row;
-        self.values.set(cell, value)
     }
 
     /// Gives the cells of a run those results, the first row's first, of which none is blank. It is linear in

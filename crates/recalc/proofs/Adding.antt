@@ -64,9 +64,6 @@ module _ (book : Book) where
     pub evaluated : AreEvaluated book now done
     pub left : KeepsOthers done first now
 
-  pub on_way_start : (first : Results) (done : CellSet) → IsSound book first → ((q : Place) → done q ≡ false) → IsOnWay first first done
-  on_way_start first done sound none = record { evaluated = record { sound = sound; known = λ q h. absurd (false≢true (sym (none q) ∙ h)) }; left = λ q h. refl }
-
   pub on_way_more : (first now new : Results) (done one more : CellSet) → IsOnWay first now done → AreEvaluated book new one → KeepsOthers one now new → ((q : Place) → more q ≡ (done q || one q)) → IsOnWay first new more
   on_way_more first now new done one more way evaluated kept is = record {
     evaluated = record {
@@ -80,12 +77,6 @@ module _ (book : Book) where
       first_of : (a b : Bool) → b ≡ false → (a || b) ≡ true → a ≡ true
       first_of true b e h = refl
       first_of false b e h = absurd (false≢true (sym e ∙ h))
-
-  pub on_way_as : (first now : Results) (done all : CellSet) → IsOnWay first now done → ((q : Place) → all q ≡ done q) → IsOnWay first now all
-  on_way_as first now done all way same = record {
-    evaluated = record { sound = way.evaluated.sound; known = λ q h. way.evaluated.known q (sym (same q) ∙ h) };
-    left = λ q h. way.left q (sym (same q) ∙ h);
-  }
 
   -- a part of ready cells is still ready on the way
   pub ready_on_way : (first now : Results) (done cells part : CellSet) → IsOnWay first now done → AreReady book first cells → ((q : Place) → part q ≡ true → cells q ≡ true) → AreReady book now part

@@ -68,18 +68,6 @@ module _ (book : Book) (problem : Problem) (holds : HoldsReads problem.read book
       let size : length problem.stale ≡ count_in book (has problem.stale) = counted book (has problem.stale) formulas problem.stale is in_order (λ q. refl) in
       omega (arith, size, parted (done_before k) (λ q. false) (has problem.stale) (λ q h. refl) (λ q h. (both_true (has problem.stale q) (is_done problem k q) h).0) (λ q h. absurd (false≢true h)) book.cells)
 
-  -- before the first wave none is done
-  pub none_done : count_in book (done_before 0) ≡ 0
-  none_done = none book.cells
-    where
-      none_of : (b : Bool) → (b && false) ≡ false
-      none_of true = refl
-      none_of false = refl
-
-      none : (entries : List (Place × Content)) → length (filter (λ e. done_before 0 e.0) entries) ≡ 0
-      none [] = refl
-      none (e ∷ es) = ap (λ b. length (cond b (e ∷ filter (λ e. done_before 0 e.0) es) (filter (λ e. done_before 0 e.0) es))) (none_of (has problem.stale e.0)) ∙ none es
-
 -- there are no more units than cells
 pub units_fit : (book : Book) (units : List Rows) → All (IsUnit book) units → length units ≤ length (rows_cells units)
 units_fit book [] each = omega arith

@@ -43,9 +43,6 @@ module _ (book : Book) (read : ReadAreas) (stale outside : List Place) (stored :
       no_circle : is_formula_cell book q ≡ false → is_circular book q ≡ false
       no_circle e = not_both (is_circular book q) (sym (right.known q (plainly q h)) ∙ ap (λ b. not b || is_some (results_of stored.results q)) e)
 
-  pub circle_beside : (q : Place) → has stale q ≡ false → has outside q ≡ true → is_circular book q ≡ true
-  circle_beside q h e = sym (listed q h) ∙ e
-
   module _ (cleared : Results) (clears : (q : Place) → cleared q ≡ (if has stale q then None else results_of stored.results q)) where
     gone : (q : Place) → has stale q ≡ true → is_known book cleared q ≡ false
     gone q h = ap (λ b. not b || is_some (cleared q)) (formulas q h) ∙ ap is_some (clears q ∙ ap (λ b. if b then None else results_of stored.results q) h)

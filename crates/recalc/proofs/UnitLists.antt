@@ -83,9 +83,6 @@ module _ (columns : CodeColumns) (cells : List Place) (part : Unit) (is : IsPart
     few = omega arith;
   }
 
-  pub opened_none : AreCodedUnits columns cells [] → IsOpen columns cells [] part part.first
-  opened_none are = begins [] are tt
-
   module _ (units : List Unit) (last : Unit) (are : AreCodedUnits columns cells (units ++ last ∷ [])) where
     pub opened_kept : (Continues last part → UNIT_ROWS ≤ height (rows_of last)) → IsOpen columns cells (units ++ last ∷ []) part part.first
     opened_kept full = begins (units ++ last ∷ []) are (linked_more units last part are.linked (λ goes. whole (height (rows_of last)) (end columns units last are.each).few (full goes)))
