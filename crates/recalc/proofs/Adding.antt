@@ -1,26 +1,17 @@
 -- Results that come to cells, and what they leave as it was.
-use Rattle.std.proofs.Common.{◌≡◌, ◌≤◌, ◌<◌, ℕ, zero, suc, ◌+◌, nat_lt, arith, List, [], ◌∷◌, take, length, get_or, Bool, true, false, not, ◌||◌, ◌&&◌, Some, cond, refl, sym, ap, subst, ◌∙◌, ⊎_elim}
+use Rattle.std.proofs.Common.{◌≡◌, ◌<◌, ℕ, zero, suc, ◌+◌, List, [], ◌∷◌, take, length, get_or, Bool, true, false, not, ◌||◌, Some, refl, sym, ap, ◌∙◌, ⊎_elim}
 use Rattle.std.specs.Prelude.{is_some}
-use Rattle.std.specs.Ordering.{eq_by_cmp}
 use Rattle.std.proofs.lemmas.Bool.{cases_Bool, false≢true, or_cases}
-use Rattle.std.proofs.lemmas.Bool.Decides.{nat_tests}
-use Rattle.calc_addr.specs.Places.{Place, Rows, place_cmp}
+use Rattle.calc_addr.specs.Places.{Place, Rows}
 use Rattle.run_unions.specs.Unions.{is_in}
 use Rattle.std.proofs.lemmas.List.Folds.{list_any_more}
 use Rattle.dirty_spread.specs.Marking.{is_in_any}
-use Rattle.dirty_spread.proofs.Stepping.{lies}
-use Rattle.calc_model.proofs.Areas.{both_true}
 use Rattle.calc_model.specs.declared.value.Value.{Value}
-use Rattle.calc_model.specs.declared.tree.Tree.{Tree}
-use Rattle.calc_model.specs.declared.content.Content.TheVariants.{Formula}
-use Rattle.calc_model.specs.Books.{Book, area_named, content_at, is_formula}
-use Rattle.calc_model.specs.Eval.{eval, top}
+use Rattle.calc_model.specs.Books.{Book, content_at, is_formula}
 use Rattle.calc_model.specs.Reads.{reads}
-use Rattle.calc_model.specs.Results.{IsSound, Results, Sets, is_known, is_ready, shown_by}
+use Rattle.calc_model.specs.Results.{Results, is_known}
 use Rattle.calc_model.specs.Touched.{CellSet}
-use Rattle.calc_model.proofs.Knowing.{sound_with}
-use Rattle.calc_model.proofs.Places.{same_places}
-use Rattle.calc_model.proofs.Reached.{or_true, same_cell}
+use Rattle.calc_model.proofs.Reached.{or_true}
 use Rattle.calc_model.proofs.Rounds.{all_cells_more}
 use Rattle.recalc.specs.Evaluating.{AreEvaluated, AreReady, KeepsOthers}
 

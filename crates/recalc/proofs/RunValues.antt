@@ -1,21 +1,17 @@
 -- Values that come to all cells of a run at once.
-use Rattle.std.proofs.Common.{◌≡◌, ◌≤◌, ◌<◌, ℕ, ◌+◌, ◌-◌, true, false, List, [], ◌∷◌, ◌++◌, length, get_or, Option, Some, cond, refl, sym, ap, subst, ◌∙◌, ⊎_elim, arith}
-use Rattle.std.specs.Prelude.{slice_get, is_some, not, ◌||◌}
+use Rattle.std.proofs.Common.{◌≡◌, ◌≤◌, ◌<◌, ℕ, ◌+◌, ◌-◌, true, false, List, [], ◌∷◌, ◌++◌, length, get_or, Some, cond, sym, ap, ◌∙◌, ⊎_elim, arith}
+use Rattle.std.specs.Prelude.{slice_get}
 use Rattle.std.proofs.Math.Seq.{get_or-append_seam}
 use Rattle.std.proofs.lemmas.Bool.{cases_Bool, cases_lt}
 use Rattle.std.proofs.lemmas.List.{get_or_append_left, length-append}
 use Rattle.std.proofs.lemmas.Option.{slice_get-get_or}
 use Rattle.std.specs.List.{All}
 use Rattle.calc_addr.specs.Places.{Place, Rows}
-use Rattle.calc_model.specs.declared.content.Content.TheVariants.{Formula}
-use Rattle.calc_model.specs.declared.tree.Tree.{Tree}
 use Rattle.calc_model.specs.declared.value.Value.{Value}
-use Rattle.calc_model.specs.Books.{Book, area_named, content_at, is_formula}
+use Rattle.calc_model.specs.Books.{Book, area_named, content_at}
 use Rattle.calc_model.specs.Eval.{eval, top}
-use Rattle.calc_model.specs.Grounded.{is_circular}
-use Rattle.calc_model.specs.Results.{IsSound, Results, is_known, shown_by, shown_content}
+use Rattle.calc_model.specs.Results.{IsSound, Results, shown_by, shown_content}
 use Rattle.calc_model.specs.UsedCells.{is_used}
-use Rattle.calc_model.specs.Val.{val}
 use Rattle.calc_model.proofs.Knowing.{ready_grounded, ready_value}
 use Rattle.book_parts.specs.Runs.{IsCodedIn}
 use Rattle.formula_code.specs.Codes.{Codes, tree_at}

@@ -1,4 +1,4 @@
-use Rattle.std.proofs.Common.{◌≡◌, subst}
+use Rattle.std.proofs.Common.{subst}
 use Rattle.std.proofs.lemmas.Result.{on_err_weaker, on_ok_weaker}
 use Rattle.calc_addr.specs.Places.{IsRows}
 use Rattle.formula_results.specs.Results.{Clears, SameResults, results_of}

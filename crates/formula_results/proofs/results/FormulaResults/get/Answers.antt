@@ -1,4 +1,4 @@
-use Rattle.std.proofs.Common.{◌≡◌, ap, ◌∙◌, sym, subst}
+use Rattle.std.proofs.Common.{ap, ◌∙◌, sym, subst}
 use Rattle.calc_addr.specs.Places.{IsPlace}
 use Rattle.calc_model.specs.ValueTexts.{lent}
 use Rattle.formula_results.specs.Results.{result_of, results_of}

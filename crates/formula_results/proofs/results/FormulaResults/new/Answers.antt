@@ -1,4 +1,4 @@
-use Rattle.std.proofs.Common.{ap, cond, ◌∙◌}
+use Rattle.std.proofs.Common.{ap, ◌∙◌}
 use Rattle.formula_results.specs.Results.{results_of}
 use Rattle.formula_results.proofs.StoredValues.{no_results}
 use Rattle.formula_results.proofs.results.FormulaResults.new.Goals as goal

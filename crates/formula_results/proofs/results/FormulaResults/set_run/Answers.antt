@@ -1,4 +1,4 @@
-use Rattle.std.proofs.Common.{◌≡◌, ◌-◌, arith, subst}
+use Rattle.std.proofs.Common.{arith, subst}
 use Rattle.std.proofs.lemmas.Result.{on_err_weaker}
 use Rattle.calc_addr.specs.Places.{IsRows}
 use Rattle.formula_results.specs.Results.{SameResults, SetsRun, results_of}
