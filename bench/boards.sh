@@ -16,22 +16,11 @@ set -euo pipefail
 
 top="$(cd "$(dirname "$0")/.." && pwd)"
 source="$top/bench/boards"
+source "$top/bench/program.sh"
 work="$(mktemp -d)"
 trap 'rm -rf "$work"' EXIT
 
-mkdir -p "$work/crates/work_board" "$work/crates/boards/src"
-cp "$top/HANDLES" "$work/"
-cp -r "$top/crates/work_board/"{src,specs,proofs} "$work/crates/work_board/"
-for file in "$source"/program/*.rattle; do
-    cp "$file" "$work/crates/boards/src/$(basename "$file" .rattle).rt"
-done
-cp -r "$source/program/proofs" "$work/crates/boards/"
-find "$work/crates/boards/proofs" -name '*.rattle' | while read -r file; do mv "$file" "${file%.rattle}"; done
-printf 'work_board: atomic_table\nboards: work_board\n' >"$work/crates.txt"
-(cd "$work/crates/boards" && rt run --jobs 1 >/dev/null 2>"$work/log") || {
-    cat "$work/log" >&2
-    exit 1
-}
+build_program "$work" boards "$source/program" "work_board"
 
 # Rattle compiles for x86-64-v2, and so does the C.
 flags=(-O3 -march=x86-64-v2 -pthread -isystem "$(gcc -print-file-name=include)")

@@ -13,24 +13,11 @@ set -euo pipefail
 
 top="$(cd "$(dirname "$0")/.." && pwd)"
 source="$top/bench/codes"
+source "$top/bench/program.sh"
 work="$(mktemp -d)"
 trap 'rm -rf "$work"' EXIT
 
-cp "$top/HANDLES" "$work/"
-for crate in byte_cuts calc_num calc_addr calc_model formula_reader formula_code; do
-    mkdir -p "$work/crates/$crate"
-    cp -r "$top/crates/$crate/"{src,specs,proofs} "$work/crates/$crate/"
-    grep "^$crate:" "$top/crates.txt" >>"$work/crates.txt"
-done
-mkdir -p "$work/crates/codes/src"
-for file in "$source"/program/*.rattle; do
-    cp "$file" "$work/crates/codes/src/$(basename "$file" .rattle).rt"
-done
-printf 'codes: formula_code formula_reader calc_model calc_addr\n' >>"$work/crates.txt"
-(cd "$work/crates/codes" && rt run --jobs 1 >/dev/null 2>"$work/log") || {
-    cat "$work/log" >&2
-    exit 1
-}
+build_program "$work" codes "$source/program" "formula_code formula_reader calc_model calc_addr"
 
 for _ in 1 2 3 4 5; do
     "$work/crates/codes/out/codes"

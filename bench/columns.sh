@@ -12,26 +12,11 @@ set -euo pipefail
 
 top="$(cd "$(dirname "$0")/.." && pwd)"
 source="$top/bench/columns"
+source "$top/bench/program.sh"
 work="$(mktemp -d)"
 trap 'rm -rf "$work"' EXIT
 
-cp "$top/HANDLES" "$work/"
-for crate in byte_cuts calc_num calc_addr calc_model run_tables paged_list block_column value_column; do
-    mkdir -p "$work/crates/$crate"
-    for folder in src specs proofs; do
-        if [ -d "$top/crates/$crate/$folder" ]; then cp -r "$top/crates/$crate/$folder" "$work/crates/$crate/"; fi
-    done
-    grep "^$crate:" "$top/crates.txt" >>"$work/crates.txt"
-done
-mkdir -p "$work/crates/columns/src"
-for file in "$source"/program/*.rattle; do
-    cp "$file" "$work/crates/columns/src/$(basename "$file" .rattle).rt"
-done
-printf 'columns: run_tables block_column value_column calc_model calc_addr calc_num\n' >>"$work/crates.txt"
-(cd "$work/crates/columns" && rt run --jobs 1 >/dev/null 2>"$work/log") || {
-    cat "$work/log" >&2
-    exit 1
-}
+build_program "$work" columns "$source/program" "run_tables block_column value_column calc_model calc_addr calc_num"
 
 # Rattle compiles for x86-64-v2, and so do the others.
 gcc -O3 -march=x86-64-v2 -o "$work/c" "$source/columns.c"

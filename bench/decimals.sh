@@ -13,20 +13,11 @@ set -euo pipefail
 
 top="$(cd "$(dirname "$0")/.." && pwd)"
 source="$top/bench/decimals"
+source "$top/bench/program.sh"
 work="$(mktemp -d)"
 trap 'rm -rf "$work"' EXIT
 
-mkdir -p "$work/crates/calc_num" "$work/crates/decimals/src"
-cp "$top/HANDLES" "$work/"
-cp -r "$top/crates/calc_num/"{src,specs,proofs} "$work/crates/calc_num/"
-for file in "$source"/program/*.rattle; do
-    cp "$file" "$work/crates/decimals/src/$(basename "$file" .rattle).rt"
-done
-printf 'calc_num: itoa\ndecimals: calc_num\n' >"$work/crates.txt"
-(cd "$work/crates/decimals" && rt run --jobs 1 >/dev/null 2>"$work/log") || {
-    cat "$work/log" >&2
-    exit 1
-}
+build_program "$work" decimals "$source/program" "calc_num"
 
 # Rattle compiles for x86-64-v2, and so does the C.
 flags=(-O3 -march=x86-64-v2 -isystem "$(gcc -print-file-name=include)")

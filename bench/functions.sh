@@ -14,30 +14,11 @@ set -euo pipefail
 
 top="$(cd "$(dirname "$0")/.." && pwd)"
 source="$top/bench/functions"
+source "$top/bench/program.sh"
 work="$(mktemp -d)"
 trap 'rm -rf "$work"' EXIT
 
-cp "$top/HANDLES" "$work/"
-for crate in byte_cuts calc_num calc_addr calc_model fn_args fn_stat fn_lookup; do
-    mkdir -p "$work/crates/$crate"
-    for folder in src specs proofs; do
-        if [ -d "$top/crates/$crate/$folder" ]; then cp -r "$top/crates/$crate/$folder" "$work/crates/$crate/"; fi
-    done
-    grep "^$crate:" "$top/crates.txt" >>"$work/crates.txt"
-done
-(cd "$source/program" && find . -name '*.rattle') | while read -r file; do
-    case "$file" in
-        *.antt.rattle) to="$work/crates/functions/${file%.rattle}" ;;
-        *) to="$work/crates/functions/src/$(basename "$file" .rattle).rt" ;;
-    esac
-    mkdir -p "$(dirname "$to")"
-    cp "$source/program/$file" "$to"
-done
-printf 'functions: fn_stat fn_lookup calc_model calc_addr calc_num\n' >>"$work/crates.txt"
-(cd "$work/crates/functions" && rt run --jobs 1 >/dev/null 2>"$work/log") || {
-    cat "$work/log" >&2
-    exit 1
-}
+build_program "$work" functions "$source/program" "fn_stat fn_lookup calc_model calc_addr calc_num"
 
 # Rattle compiles for x86-64-v2, and so does the C.
 flags=(-O3 -march=x86-64-v2 -isystem "$(gcc -print-file-name=include)")

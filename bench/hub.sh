@@ -28,30 +28,11 @@ set -euo pipefail
 
 top="$(cd "$(dirname "$0")/.." && pwd)"
 source="$top/bench/hub"
+source "$top/bench/program.sh"
 work="$(mktemp -d)"
 trap 'rm -rf "$work"' EXIT
 
-cp "$top/HANDLES" "$work/"
-for crate in byte_cuts calc_num calc_addr calc_model ears area_listeners run_unions registration_slab listener_hub; do
-    mkdir -p "$work/crates/$crate"
-    for folder in src specs proofs; do
-        if [ -d "$top/crates/$crate/$folder" ]; then cp -r "$top/crates/$crate/$folder" "$work/crates/$crate/"; fi
-    done
-    grep "^$crate:" "$top/crates.txt" >>"$work/crates.txt"
-done
-(cd "$source/program" && find . -name '*.rattle') | while read -r file; do
-    case "$file" in
-        *.antt.rattle) to="$work/crates/hubs/${file%.rattle}" ;;
-        *) to="$work/crates/hubs/src/$(basename "$file" .rattle).rt" ;;
-    esac
-    mkdir -p "$(dirname "$to")"
-    cp "$source/program/$file" "$to"
-done
-printf 'hubs: listener_hub ears calc_model calc_addr\n' >>"$work/crates.txt"
-(cd "$work/crates/hubs" && rt run --jobs 1 >/dev/null 2>"$work/log") || {
-    cat "$work/log" >&2
-    exit 1
-}
+build_program "$work" hubs "$source/program" "listener_hub ears calc_model calc_addr"
 
 # Rattle compiles for x86-64-v2, and so does the C.
 flags=(-O3 -march=x86-64-v2 -isystem "$(gcc -print-file-name=include)")

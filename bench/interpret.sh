@@ -14,28 +14,11 @@ set -euo pipefail
 
 top="$(cd "$(dirname "$0")/.." && pwd)"
 source="$top/bench/interpret"
+source "$top/bench/program.sh"
 work="$(mktemp -d)"
 trap 'rm -rf "$work"' EXIT
 
-cp "$top/HANDLES" "$work/"
-for crate in byte_cuts calc_num calc_addr calc_model formula_reader formula_code cell_interpreter; do
-    mkdir -p "$work/crates/$crate"
-    cp -r "$top/crates/$crate/"{src,specs,proofs} "$work/crates/$crate/"
-    grep "^$crate:" "$top/crates.txt" >>"$work/crates.txt"
-done
-(cd "$source/program" && find . -name '*.rattle') | while read -r file; do
-    case "$file" in
-        *.antt.rattle) to="$work/crates/interpreted/${file%.rattle}" ;;
-        *) to="$work/crates/interpreted/src/$(basename "$file" .rattle).rt" ;;
-    esac
-    mkdir -p "$(dirname "$to")"
-    cp "$source/program/$file" "$to"
-done
-printf 'interpreted: formula_reader formula_code cell_interpreter calc_model calc_addr calc_num\n' >>"$work/crates.txt"
-(cd "$work/crates/interpreted" && rt run --jobs 2 >/dev/null 2>"$work/log") || {
-    cat "$work/log" >&2
-    exit 1
-}
+build_program "$work" interpreted "$source/program" "formula_reader formula_code cell_interpreter calc_model calc_addr calc_num"
 
 # Rattle compiles for x86-64-v2, and so does the C.
 flags=(-O3 -march=x86-64-v2 -isystem "$(gcc -print-file-name=include)")

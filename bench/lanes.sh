@@ -14,24 +14,11 @@ set -euo pipefail
 
 top="$(cd "$(dirname "$0")/.." && pwd)"
 source="$top/bench/lanes"
+source "$top/bench/program.sh"
 work="$(mktemp -d)"
 trap 'rm -rf "$work"' EXIT
 
-cp "$top/HANDLES" "$work/"
-for crate in byte_cuts calc_num calc_addr calc_model lane_kernels; do
-    mkdir -p "$work/crates/$crate"
-    cp -r "$top/crates/$crate/"{src,specs,proofs} "$work/crates/$crate/"
-    grep "^$crate:" "$top/crates.txt" >>"$work/crates.txt"
-done
-mkdir -p "$work/crates/lanes/src"
-for file in "$source"/program/*.rattle; do
-    cp "$file" "$work/crates/lanes/src/$(basename "$file" .rattle).rt"
-done
-printf 'lanes: lane_kernels calc_model\n' >>"$work/crates.txt"
-(cd "$work/crates/lanes" && rt run --jobs 1 >/dev/null 2>"$work/log") || {
-    cat "$work/log" >&2
-    exit 1
-}
+build_program "$work" lanes "$source/program" "lane_kernels calc_model"
 
 # Rattle compiles for x86-64-v2, and so does the C.
 flags=(-O3 -march=x86-64-v2 -isystem "$(gcc -print-file-name=include)")

@@ -14,6 +14,7 @@ set -euo pipefail
 
 top="$(cd "$(dirname "$0")/.." && pwd)"
 source="$top/bench/load"
+source "$top/bench/program.sh"
 work="$(mktemp -d)"
 trap 'rm -rf "$work"' EXIT
 
@@ -33,22 +34,7 @@ awk 'BEGIN {
     }
 }' >"$work/numbers"
 
-cp "$top/HANDLES" "$work/"
-for crate in byte_cuts calc_num calc_addr calc_model formula_reader calc_names run_tables paged_list formula_groups \
-    block_column formula_code kept_codes cell_columns book_parts calc_book; do
-    mkdir -p "$work/crates/$crate"
-    cp -r "$top/crates/$crate/"{src,specs,proofs} "$work/crates/$crate/"
-    grep "^$crate:" "$top/crates.txt" >>"$work/crates.txt"
-done
-mkdir -p "$work/crates/loading/src"
-for file in "$source"/program/*.rattle; do
-    cp "$file" "$work/crates/loading/src/$(basename "$file" .rattle).rt"
-done
-printf 'loading: calc_book book_parts formula_reader calc_model csv anyhow\n' >>"$work/crates.txt"
-(cd "$work/crates/loading" && rt run --jobs 1 >/dev/null 2>"$work/log") || {
-    cat "$work/log" >&2
-    exit 1
-}
+build_program "$work" loading "$source/program" "calc_book book_parts formula_reader calc_model csv anyhow"
 gcc -O3 -march=x86-64-v2 -o "$work/c" "$source/load.c"
 printf '# nothing\n' >"$work/script"
 "$top/calc" "$work/numbers" <"$work/script"

@@ -15,6 +15,7 @@ set -euo pipefail
 
 top="$(cd "$(dirname "$0")/.." && pwd)"
 source="$top/bench/reading"
+source "$top/bench/program.sh"
 work="$(mktemp -d)"
 trap 'rm -rf "$work"' EXIT
 
@@ -34,21 +35,7 @@ awk 'BEGIN {
     }
 }' >"$work/longer"
 
-cp "$top/HANDLES" "$work/"
-for crate in byte_cuts calc_num calc_addr calc_model formula_reader; do
-    mkdir -p "$work/crates/$crate"
-    cp -r "$top/crates/$crate/"{src,specs,proofs} "$work/crates/$crate/"
-    grep "^$crate:" "$top/crates.txt" >>"$work/crates.txt"
-done
-mkdir -p "$work/crates/reading/src"
-for file in "$source"/program/*.rattle; do
-    cp "$file" "$work/crates/reading/src/$(basename "$file" .rattle).rt"
-done
-printf 'reading: byte_cuts formula_reader calc_model calc_addr calc_num anyhow\n' >>"$work/crates.txt"
-(cd "$work/crates/reading" && rt run --jobs 1 >/dev/null 2>"$work/log") || {
-    cat "$work/log" >&2
-    exit 1
-}
+build_program "$work" reading "$source/program" "byte_cuts formula_reader calc_model calc_addr calc_num anyhow"
 
 # Rattle compiles for x86-64-v2, and so does the C.
 flags=(-O3 -march=x86-64-v2 -isystem "$(gcc -print-file-name=include)")

@@ -14,29 +14,9 @@ set -euo pipefail
 
 top="$(cd "$(dirname "$0")/.." && pwd)"
 source="$top/bench/waves"
+source "$top/bench/program.sh"
 work="$(mktemp -d)"
 trap 'rm -rf "$work"' EXIT
 
-cp "$top/HANDLES" "$work/"
-for crate in byte_cuts calc_num calc_addr calc_model ears area_listeners run_unions registration_slab listener_hub \
-    cell_runs dirty_spread; do
-    mkdir -p "$work/crates/$crate"
-    for folder in src specs proofs; do
-        if [ -d "$top/crates/$crate/$folder" ]; then cp -r "$top/crates/$crate/$folder" "$work/crates/$crate/"; fi
-    done
-    grep "^$crate:" "$top/crates.txt" >>"$work/crates.txt"
-done
-(cd "$source/program" && find . -name '*.rattle') | while read -r file; do
-    case "$file" in
-        *.antt.rattle) to="$work/crates/spreads/${file%.rattle}" ;;
-        *) to="$work/crates/spreads/src/$(basename "$file" .rattle).rt" ;;
-    esac
-    mkdir -p "$(dirname "$to")"
-    cp "$source/program/$file" "$to"
-done
-printf 'spreads: dirty_spread listener_hub registration_slab ears cell_runs calc_model calc_addr\n' \
-    >>"$work/crates.txt"
-(cd "$work/crates/spreads" && rt run --jobs 1 2>"$work/log") || {
-    cat "$work/log" >&2
-    exit 1
-}
+build_program "$work" spreads "$source/program" "dirty_spread listener_hub registration_slab ears cell_runs calc_model calc_addr"
+cat "$work/printed"
